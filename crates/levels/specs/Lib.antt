@@ -1,0 +1,7 @@
+pub mod Order
+pub mod Table
+pub mod Formed
+pub mod Change
+pub mod Edits
+pub mod Walk
+pub mod Examples

@@ -1,0 +1,34 @@
+-- Which of two prices comes first on a side, and where a price stands among others.
+use Prim.Native.Nat.{ℕ, suc, _+_}
+use mathlib.Core.Bool.{Bool, true, cond, _&&_}
+use mathlib.Core.List.{List, [], _∷_}
+use lib.Dec.{eqb, ltb}
+use Rattle.types.specs.declared.Side.{Side}
+use Rattle.types.specs.declared.Side.the-variants.{Bid, Ask}
+use Rattle.levels.specs.declared.Place.{Place}
+use Rattle.levels.specs.declared.Place.the-variants.{At, Before}
+
+-- the higher bid and the lower ask come first
+abbrev pub aheadOf : Side → ℕ → ℕ → Bool
+aheadOf Bid a b = ltb b a
+aheadOf Ask a b = ltb a b
+
+-- the price is ahead of the next, if there is one
+unfoldable pub leads : Side → ℕ → List ℕ → Bool
+leads s x [] = true
+leads s x (y ∷ ys) = aheadOf s x y
+
+-- bids strictly fall and asks strictly rise: each price is ahead of the next
+unfoldable pub inOrder : Side → List ℕ → Bool
+inOrder s [] = true
+inOrder s (x ∷ xs) = leads s x xs && inOrder s xs
+
+-- how many of the prices are ahead of p
+unfoldable pub countAhead : Side → ℕ → List ℕ → ℕ
+countAhead s p [] = 0
+countAhead s p (x ∷ xs) = cond (aheadOf s x p) (suc (countAhead s p xs)) (countAhead s p xs)
+
+-- where p stands among prices in order, or before which it belongs; i is the place of the first
+unfoldable pub placeFrom : Side → ℕ → ℕ → List ℕ → Place
+placeFrom s p i [] = Before i
+placeFrom s p i (x ∷ xs) = cond (eqb x p) (At i) (cond (aheadOf s x p) (placeFrom s p (i + 1) xs) (Before i))

@@ -1,0 +1,82 @@
+// Whether two rows and a count are a well-formed side: one fact a loop, each kept in a flag.
+ghost use mathlib.Core.Path.{_≡_};
+ghost use Prim.Native.Nat.{_≤_};
+ghost use lib.ListN.{length, take, drop};
+ghost use Rattle.types.specs.Limits.{within};
+ghost use Rattle.levels.specs.Order.{inOrder};
+ghost use Rattle.levels.specs.Table.{rows};
+ghost use Rattle.levels.specs.Formed.{every, wellFormed};
+use crate::search::ahead;
+use types::Side;
+
+// Whether `x` is from `lo` to `hi`.
+fn fits(x: u32, lo: u32, hi: u32) -> bool
+    ensures { λ r. ⌜ r ≡ within lo hi x ⌝ }
+{
+    if x < lo {
+        return false;
+    }
+    x <= hi
+}
+
+// Whether each place from `from` to `to` holds a number from `lo` to `hi`.
+pub fn all_within(row: &[u32; 128], from: usize, to: usize, lo: u32, hi: u32) -> bool
+    requires { ⌜ (length (now row) ≡ 128) × (to ≤ 128) ⌝ }
+    ensures { λ r. ⌜ r ≡ every (within lo hi) (drop from (take to (now (row .entry)))) ⌝ }
+{
+    let mut ok = true;
+    let mut i = from;
+    while i < to {
+        if !fits(row[i], lo, hi) {
+            ok = false;
+        }
+        i += 1;
+    }
+    ok
+}
+
+// Whether each of the first `n` prices is ahead of the next.
+pub fn ordered(side: Side, prices: &[u32; 128], n: usize) -> bool
+    requires { ⌜ (length (now prices) ≡ 128) × (n ≤ 128) ⌝ }
+    ensures { λ r. ⌜ r ≡ inOrder side (take n (now (prices .entry))) ⌝ }
+{
+    let mut ok = true;
+    let mut i: usize = 0;
+    while i + 1 < n {
+        if !ahead(side, prices[i], prices[i + 1]) {
+            ok = false;
+        }
+        i += 1;
+    }
+    ok
+}
+
+// Whether the rows and the count are a well-formed side.
+pub fn well_formed<'a>(
+    side: Side,
+    prices: &'a [u32; 128],
+    quantities: &'a [u32; 128],
+    n: usize,
+) -> bool
+    ensures { λ r. ⌜ r ≡ wellFormed side (rows (now (prices .entry)) (now (quantities .entry)) n) ⌝ }
+{
+    // as slices, the rows are known to have 128 places
+    let p: &[u32] = prices;
+    let q: &[u32] = quantities;
+    if 128 < n {
+        return false;
+    }
+    if !ordered(side, prices, n) {
+        return false;
+    }
+    if !all_within(prices, 0, n, 1, types::MAX_PRICE) {
+        return false;
+    }
+    if !all_within(quantities, 0, n, 0, types::MAX_QUANTITY) {
+        return false;
+    }
+    if !all_within(prices, n, 128, 0, 0) {
+        return false;
+    }
+    all_within(quantities, n, 128, 0, 0)
+}

@@ -1,0 +1,45 @@
+// One side of a book: a table of at most 128 levels, best first, with one code for bids and asks. The work is done on rows of 128
+// places that are lent, so that the book by value, the receiver and a batch of deltas share one set of functions and proofs.
+ghost use mathlib.Core.Path.{_≡_};
+ghost use mathlib.Core.List.{[]};
+ghost use Rattle.levels.specs.Table.{table};
+
+pub mod search; // search.rt: which price comes first, and where a price stands or belongs
+pub mod formed; // formed.rt: whether two rows and a count are a well-formed side
+pub mod change; // change.rt: what Set and Remove do to a row
+pub mod walk; // walk.rt: quantities, costs, prices reached and gaps
+
+#[repr(C)]
+pub struct Levels {
+    pub prices: [u32; 128],
+    pub quantities: [u32; 128],
+    pub count: usize,
+}
+
+// Where a price stands, or before which place it belongs.
+pub enum Place {
+    At(usize),
+    Before(usize),
+}
+
+// What a change does to each row of a side: nothing, a number written over, put in or taken out; or there is no room.
+pub enum Edit {
+    Keep,
+    Over(usize),
+    In(usize),
+    Out(usize),
+    Full,
+}
+
+impl Levels {
+    // No levels, and 0 in every place.
+    pub fn empty() -> Levels
+        ensures { λ r. ⌜ r ≡ table [] ⌝ }
+    {
+        Levels {
+            prices: [0; 128],
+            quantities: [0; 128],
+            count: 0,
+        }
+    }
+}
