@@ -57,7 +57,7 @@ leads-on s a b (x ∷ xs) h k = ahead-trans s a b x h k
 
 module _ (s : Side) (p : ℕ) where
   -- behind a price that is not ahead of p none is
-  none-ahead : (x : ℕ) (xs : List ℕ) → aheadOf s x p ≡ false → inOrder s (x ∷ xs) ≡ true → countAhead s p xs ≡ 0
+  pub none-ahead : (x : ℕ) (xs : List ℕ) → aheadOf s x p ≡ false → inOrder s (x ∷ xs) ≡ true → countAhead s p xs ≡ 0
   unfolding countAhead leads
   none-ahead x [] a h = refl
   none-ahead x (y ∷ ys) a h =

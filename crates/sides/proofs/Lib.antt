@@ -1,0 +1,4 @@
+pub mod Bests
+pub mod Prices
+pub mod Finds
+pub mod Ticks

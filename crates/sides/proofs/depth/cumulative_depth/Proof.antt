@@ -1,0 +1,14 @@
+-- `sides::depth::cumulative_depth` meets its contract: the walk's total, for a price within the limits.
+use borrow.Author.Needs.{needs}
+use Rattle.levels.proofs.Flags.{passed, failed}
+use Rattle.sides.proofs.depth.cumulative_depth.Statement.{statement}
+use Rattle.sides.proofs.depth.cumulative_depth.Tie as tie
+
+pub cumulative-depth-spec : {M : Type 1} → statement M
+cumulative-depth-spec =
+    tie.close
+    (tie.spec
+    (λ c κs. search needs)
+    (λ c. rw (failed (c .before .is-price .ensures) (c .if1 .taken)))
+    (λ c κs. search needs)
+    (λ c. rw (passed (c .before .before .is-price .ensures) (c .before .if1 .left), c .total-up-to .ensures)))

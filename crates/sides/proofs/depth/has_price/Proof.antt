@@ -1,0 +1,27 @@
+-- `sides::depth::has_price` meets its contract: the search finds the price exactly where a level has it.
+use mathlib.Core.Path.{sym, _∙_}
+use borrow.Author.Needs.{needs}
+use Rattle.levels.proofs.Flags.{passed, failed}
+use Rattle.sides.proofs.Finds.{found-has, absent-has}
+use Rattle.sides.proofs.depth.has_price.Statement.{statement}
+use Rattle.sides.proofs.depth.has_price.Tie as tie
+
+pub has-price-spec : {M : Type 1} → statement M
+has-price-spec =
+    tie.close
+    (tie.spec
+    (λ c κs. search needs)
+    (λ c. rw (failed (c .before .is-price .ensures) (c .if1 .taken)))
+    (λ c κs. search needs)
+    (λ c. search needs)
+    (λ c. search needs)
+    (λ c.
+    let f = c .before .before in
+    let l = f .before in
+    let w = l .before .before .pre in
+    rw (passed (l .before .is-price .ensures) (l .if1 .left), found-has _ _ _ _ (w .0, w .1, w .2) _ _ (sym (f .find .ensures) ∙ c .enum-told .given .1)))
+    (λ c.
+    let f = c .before .before in
+    let l = f .before in
+    let w = l .before .before .pre in
+    rw (passed (l .before .is-price .ensures) (l .if1 .left), absent-has _ _ _ _ (w .0, w .1, w .2) _ _ (w .3) (sym (f .find .ensures) ∙ c .enum-told2 .given .1))))
