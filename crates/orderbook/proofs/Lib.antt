@@ -1,0 +1,4 @@
+pub mod Bests
+pub mod Books
+pub mod Kept
+pub mod Steps

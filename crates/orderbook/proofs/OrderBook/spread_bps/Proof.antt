@@ -1,0 +1,22 @@
+-- `orderbook::OrderBook::spread_bps` meets its contract: a book's best levels are apart, and 1 answers of a record that is no book.
+use borrow.Author.Needs.{needs}
+use Rattle.types.specs.declared.Side.the-variants.{Bid, Ask}
+use Rattle.orderbook.specs.Questions.{spreadBps}
+use Rattle.orderbook.proofs.Books.{passed, failed, Book, a-book}
+use Rattle.orderbook.proofs.OrderBook.spread_bps.Statement.{statement}
+use Rattle.orderbook.proofs.OrderBook.spread_bps.Tie as tie
+
+book : (c : tie.Else1) → Book (c .before .before .args .t1)
+book c = a-book _ (passed (c .before .is-book .ensures) (c .if1 .left))
+
+pub spread-bps-spec : {M : Type 1} → statement M
+unfolding spreadBps
+spread-bps-spec =
+    tie.close
+    (tie.spec
+    (λ c κs. search needs)
+    (λ c. rw (failed (c .before .is-book .ensures) (c .if1 .taken)))
+    (λ c κs. (search needs, search needs, book (c .before .before .before) .side Bid .few))
+    (λ c κs. (search needs, search needs, book (c .before .before .before .before .before .before .before) .side Ask .few))
+    (λ c κs. let e = c .before .before .before .before in (rw (c .best-of2 .ensures, e .best-of .ensures) (book (e .before .before .before .before) .apart), search needs))
+    (λ c. let e = c .before .before .before .before .before in rw (book (e .before .before .before .before) .is, c .spread-share .ensures, c .before .best-of2 .ensures, e .best-of .ensures)))
