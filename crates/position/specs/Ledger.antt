@@ -1,0 +1,126 @@
+-- What a ledger is, and what fills and deposits make of it.
+use Prim.Native.Nat.{ℕ, _*_}
+use mathlib.Core.Bool.{Bool, not, false, _&&_, cond}
+use mathlib.Core.List.{List, [], _∷_}
+use lib.ListN.{getD, set, replicate}
+use lib.IntN.{ℤ, pos, _+ℤ_, _-ℤ_}
+use lib.Signed.{ltZ}
+use Rattle.amount.specs.Sums.{allTo}
+use Rattle.amount.specs.Whole.{amount}
+use Rattle.types.specs.Limits.{sizedWithin, symbols, maxDeposit, maxPosition, maxMoney}
+use Rattle.types.specs.Replies.{Reply, done, refused}
+use Rattle.types.specs.Answers.{replyOfOutcome}
+use Rattle.types.specs.declared.Side.{Side}
+use Rattle.types.specs.declared.Side.the-variants.{Bid, Ask}
+use Rattle.position.specs.declared.Position.{Position}
+use Rattle.position.specs.declared.Fill.{Fill}
+use Rattle.position.specs.declared.PositionLedger.{PositionLedger}
+use Rattle.position.specs.declared.Booked.{Booked}
+use Rattle.position.specs.Holding.{isPosition, isFill, lots, after}
+
+-- a position never traded
+abbrev pub flat : Position
+flat = record { quantity = amount (pos 0); average = 0; realized = amount (pos 0) }
+
+-- the position of a symbol
+abbrev pub at : PositionLedger → ℕ → Position
+at l i = getD (l .positions) i flat
+
+-- a money total within its limit
+abbrev pub isMoney : ℤ → Bool
+isMoney z = sizedWithin maxMoney z
+
+-- the position of a symbol is within its limits
+abbrev pub isPositionAt : PositionLedger → ℕ → Bool
+isPositionAt l i = isPosition (at l i)
+
+-- the limits hold, of the totals and of each position
+unfoldable pub isLedger : PositionLedger → Bool
+isLedger l = isMoney (l .cash .value) && (isMoney (l .commission .value) && allTo (isPositionAt l) symbols)
+
+-- a ledger and the reply beside it
+pub record Change : Type 0 where
+  pub ledger : PositionLedger
+  pub reply : Reply (Unit {0})
+
+-- what a call gave back
+abbrev pub changeOf : Booked → Change
+changeOf b = record { ledger = b .ledger; reply = replyOfOutcome (b .outcome) }
+
+-- done, with this ledger
+abbrev pub changed : PositionLedger → Change
+changed l = record { ledger = l; reply = done tt }
+
+-- refused: the very ledger that was handed in
+abbrev pub kept : PositionLedger → ℕ → List ℤ → Change
+kept l n vs = record { ledger = l; reply = refused n vs }
+
+-- goes on if the test holds, else keeps the ledger and gives this refusal
+abbrev pub provided : PositionLedger → Bool → ℕ → List ℤ → Change → Change
+provided l t n vs next = cond t next (kept l n vs)
+
+-- a new ledger is all 0 but for its cash
+abbrev pub opening : ℤ → PositionLedger
+opening cash = record { cash = amount cash; commission = amount (pos 0); positions = replicate symbols flat }
+
+-- `new`: cash outside its limit gives 2, and beside it the ledger of cash 0
+unfoldable pub opened : ℤ → Change
+opened cash = provided (opening (pos 0)) (isMoney cash) 2 [] (changed (opening cash))
+
+-- what a fill takes from cash: a Bid pays its cost, an Ask is paid it, and each pays its commission
+abbrev pub charge : Fill → ℤ
+charge f = lots (f .side) (f .quantity * f .price) +ℤ f .commission .value
+
+-- cash after a fill
+abbrev pub cashAfter : ℤ → Fill → ℤ
+cashAfter cash f = cash -ℤ charge f
+
+-- a Bid may not leave cash below zero, an Ask may
+abbrev pub isShort : Side → ℤ → Bool
+isShort Bid cash = ltZ cash (pos 0)
+isShort Ask cash = false
+
+-- the ledger after a fill that makes p of its symbol's position
+abbrev pub filledWith : PositionLedger → Fill → Position → PositionLedger
+filledWith l f p = record {
+  cash = amount (cashAfter (l .cash .value) f);
+  commission = amount (l .commission .value +ℤ f .commission .value);
+  positions = set (l .positions) (f .symbol) p;
+}
+
+-- the ledger after a fill
+unfoldable pub filled : PositionLedger → Fill → PositionLedger
+filled l f = filledWith l f (after (at l (f .symbol)) f)
+
+-- the totals that a fill moves are within their limits
+abbrev pub isBearable : ℤ → ℤ → Position → Bool
+isBearable cash commission p = isMoney cash && (isMoney commission && (sizedWithin maxPosition (p .quantity .value) && isMoney (p .realized .value)))
+
+-- a fill within its limits to a ledger: 8 with need and have, then 9
+unfoldable pub settled : PositionLedger → Fill → Change
+settled l f =
+    let cash = cashAfter (l .cash .value) f in
+    provided l (not (isShort (f .side) cash)) 8 (charge f ∷ l .cash .value ∷ [])
+    (provided l (isBearable cash (l .commission .value +ℤ f .commission .value) (after (at l (f .symbol)) f)) 9 []
+    (changed (filled l f)))
+
+-- `apply_fill`: 1, 2, 8, 9, else the ledger after the fill
+unfoldable pub booked : PositionLedger → Fill → Change
+booked l f = provided l (isLedger l) 1 [] (provided l (isFill f) 2 [] (settled l f))
+
+-- the ledger after fills, one after another; a refused one changes nothing
+unfoldable pub bookedAll : PositionLedger → List Fill → PositionLedger
+bookedAll l [] = l
+bookedAll l (f ∷ fs) = bookedAll (booked l f .ledger) fs
+
+-- the ledger with another cash
+abbrev pub withCash : PositionLedger → ℤ → PositionLedger
+withCash l cash = record { cash = amount cash; commission = l .commission; positions = l .positions }
+
+-- `deposit`: 1, 2, 9, else the ledger with so much more cash
+unfoldable pub deposited : PositionLedger → ℤ → Change
+deposited l d =
+    provided l (isLedger l) 1 []
+    (provided l (sizedWithin maxDeposit d) 2 []
+    (provided l (isMoney (l .cash .value +ℤ d)) 9 []
+    (changed (withCash l (l .cash .value +ℤ d)))))
