@@ -1,0 +1,9 @@
+pub mod Whole
+pub mod Reading
+pub mod Writing
+pub mod Rows
+pub mod Booked
+pub mod Damage
+pub mod Splits
+pub mod Channel
+pub mod Sent

@@ -1,0 +1,3 @@
+pub mod Bytes
+pub mod Taken
+pub mod Places
