@@ -1,0 +1,3 @@
+pub mod Senders
+pub mod Follows
+pub mod Agrees
