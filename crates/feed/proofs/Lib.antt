@@ -1,0 +1,2 @@
+-- Laws of where lines end.
+pub mod Ends
