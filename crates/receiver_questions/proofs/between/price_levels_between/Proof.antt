@@ -1,0 +1,15 @@
+-- `between::price_levels_between` meets its contract: as many places are handed back as the writer filled.
+use mathlib.Core.Path.{refl}
+use borrow.Author.Needs.{needs}
+use Rattle.depth.proofs.Fronts.{front-part}
+use Rattle.receiver_questions.proofs.between.price_levels_between.Statement.{statement}
+use Rattle.receiver_questions.proofs.between.price_levels_between.Tie as tie
+
+pub price-levels-between-spec : {M : Type 1} → statement M
+price-levels-between-spec =
+    tie.close
+    (tie.spec
+    (λ c κs. search needs)
+    (λ c κs. search needs)
+    (λ c. front-part _ _ _ _ _ (c .before .before .before .before .write-between .ensures) (c .before .filled .ensures) .1)
+    (λ c. (refl, front-part _ _ _ _ _ (c .before .before .before .before .write-between .ensures) (c .before .filled .ensures) .0)))
