@@ -1,0 +1,11 @@
+pub mod One
+pub mod Types
+pub mod Quotients
+pub mod Books
+pub mod Lent
+pub mod Depths
+pub mod Answers
+pub mod Ledgers
+pub mod Lines
+pub mod Receivers
+pub mod Shown
