@@ -3,8 +3,10 @@
 
 Needs target/bin/feed (`rt check feed`). The lines are random Sets and Removes at 100 prices a side, all of them taken.
 """
+import platform
 import random
 import subprocess
+import sys
 import time
 from pathlib import Path
 
@@ -35,6 +37,8 @@ def timed(command):
     return time.perf_counter() - start
 
 
+if platform.machine() != "x86_64":
+    sys.exit("The feed program is compiled for x86-64, and its time under an emulator says nothing.")
 write_feed()
 ends = subprocess.run([PROGRAM, FEED], capture_output=True, check=True).stdout.decode().split("\n")
 taken = sum(1 for row in ends if row.endswith(" 0") and row[:1].isdigit())

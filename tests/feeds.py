@@ -3,14 +3,14 @@
 
 Each feed is a sender's history (deltas offered to a plain book, those accepted sent, snapshots between), then loss, repeats, moves and
 damage. What the program prints is held against a plain second reading of the rules, byte for byte, and a live end state against the
-sender's own book after that number. Needs target/bin/feed (`rt check feed`).
+sender's own book after that number. The program is run by run-feed, which builds it the first time.
 """
 import random
 import subprocess
 import sys
 from pathlib import Path
 
-PROGRAM = Path(__file__).resolve().parent.parent / "target" / "bin" / "feed"
+PROGRAM = Path(__file__).resolve().parent.parent / "run-feed"
 LEVELS, PRICES, QUANTITIES = 128, 10**8, 10**9
 
 
@@ -170,4 +170,5 @@ def main():
     print(f"{count} feeds alike: {ends[True]} ended live with the sender's book, {ends[False]} waiting; outcomes {told}")
 
 
-main()
+if __name__ == "__main__":
+    main()

@@ -1,0 +1,4 @@
+// The feed program on a feed with each kind of damage.
+fn main() {
+    feeding::take();
+}

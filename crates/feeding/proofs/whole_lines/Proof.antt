@@ -1,0 +1,19 @@
+-- `whole_lines` answers an index that it came down to from the length.
+use Prim.Native.Nat.{_≤_}
+use native.Mathlib.Omega.{arith}
+use lib.ListN.{length}
+use Rattle.feeding.proofs.whole_lines.Statement.{statement}
+use Rattle.feeding.proofs.whole_lines.Tie as tie
+
+abbrev Inv-loop : tie.InvT-loop
+Inv-loop text n₀ n = n ≤ length text
+
+abbrev μ-loop : tie.MeasureT-loop
+μ-loop text n₀ n = n
+
+pub whole-lines-spec : {M : Type 1} → statement M
+whole-lines-spec =
+    tie.close
+    (tie.spec
+    Inv-loop μ-loop (λ c. omega arith) (λ c. omega arith) (λ c. omega arith) (λ c. omega arith) (λ c. omega arith) (λ c. omega arith)
+    (λ c. omega arith) (λ c. omega arith))
