@@ -1,6 +1,7 @@
 pub mod Book
 pub mod Apply
 pub mod Steps
+pub mod LentRows
 pub mod Questions
 pub mod OnePrice
 pub mod Examples

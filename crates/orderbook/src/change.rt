@@ -103,7 +103,7 @@ fn action_step(
 }
 
 // What a delta to a side comes to, in the paper's order of refusals.
-fn decide(
+pub(crate) fn decide(
     side: Side,
     prices: &[u32; 128],
     n: usize,
@@ -131,7 +131,7 @@ fn decide(
     action_step(action, side, prices, n, best, delta.price)
 }
 
-fn edit_of(step: Step) -> Edit
+pub(crate) fn edit_of(step: Step) -> Edit
     ensures { λ r. ⌜ r ≡ editOf step ⌝ }
 {
     match step {
@@ -140,7 +140,7 @@ fn edit_of(step: Step) -> Edit
     }
 }
 
-fn sequence_after(step: Step, held: u64, next: u64) -> u64
+pub(crate) fn sequence_after(step: Step, held: u64, next: u64) -> u64
     ensures { λ r. ⌜ r ≡ sequenceAfter step held next ⌝ }
 {
     match step {
@@ -149,7 +149,7 @@ fn sequence_after(step: Step, held: u64, next: u64) -> u64
     }
 }
 
-fn outcome_of(step: Step) -> Outcome
+pub(crate) fn outcome_of(step: Step) -> Outcome
     ensures { λ r. ⌜ r ≡ outcomeOf step ⌝ }
 {
     match step {
@@ -159,7 +159,7 @@ fn outcome_of(step: Step) -> Outcome
 }
 
 // The first price of a row: the best, or 0 where there is none.
-fn top(prices: &[u32; 128]) -> Price
+pub(crate) fn top(prices: &[u32; 128]) -> Price
     ensures { λ r. ⌜ r ≡ getD (now (prices .entry)) 0 0 ⌝ }
 {
     prices[0]

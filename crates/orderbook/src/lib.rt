@@ -10,6 +10,7 @@ ghost use Rattle.orderbook.specs.Book.{sidesFit, isBook, sideOf, levelsO
 
 pub mod change; // change.rt: apply_delta, clear, remove_all
 pub mod lent; // lent.rt: apply_delta over a book that is lent
+pub mod inplace; // inplace.rt: a book lent as its rows, changed in place
 pub mod best; // best.rt: the best levels and what is made of them
 pub mod volume; // volume.rt: counts and quantities
 pub mod ratio; // ratio.rt: ratios of the sides' quantities
@@ -51,6 +52,20 @@ pub struct OrderBook {
 // A book and what became of the call that gave it back.
 pub struct Applied {
     pub book: OrderBook,
+    pub outcome: Outcome,
+}
+
+// The counts and the sequence of a book that is lent as rows.
+#[repr(C)]
+pub struct Counts {
+    pub bids: usize,
+    pub asks: usize,
+    pub sequence: u64,
+}
+
+// What a delta leaves beside the rows.
+pub struct RowsApplied {
+    pub counts: Counts,
     pub outcome: Outcome,
 }
 

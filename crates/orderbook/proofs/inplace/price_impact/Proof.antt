@@ -1,0 +1,27 @@
+-- `inplace::price_impact` meets its contract: the price of the target on the rows of the side that a trade takes.
+use borrow.Author.Needs.{needs}
+use Rattle.types.specs.declared.Side.the-variants.{Bid, Ask}
+use Rattle.orderbook.specs.LentRows.{bookAt}
+use Rattle.orderbook.specs.Questions.{priceImpact}
+use Rattle.orderbook.proofs.Books.{passed, failed, Book, a-book}
+use Rattle.orderbook.proofs.inplace.price_impact.Statement.{statement}
+use Rattle.orderbook.proofs.inplace.price_impact.Tie as tie
+
+book :
+    (c : tie.Else1) →
+    let a = c .before .before .args in Book (bookAt (a .bid-prices .now) (a .bid-quantities .now) (a .ask-prices .now) (a .ask-quantities .now) (a .counts))
+book c = a-book _ (passed (c .before .is-book-at .ensures .0) (c .if1 .left))
+
+pub price-impact-spec : {M : Type 1} → statement M
+unfolding priceImpact
+price-impact-spec =
+    tie.close
+    (tie.spec
+    (λ c κs. search needs)
+    (λ c. rw (failed (c .before .is-book-at .ensures .0) (c .if1 .taken)))
+    (λ c. search needs)
+    (λ c κs. let f = book (c .before .before) .side Ask in (search needs, search needs, f .few, f .limits))
+    (λ c. search needs)
+    (λ c κs. let f = book (c .before .before) .side Bid in (search needs, search needs, f .few, f .limits))
+    (λ c. rw (c .before .enum-told .given .1, book (c .before .before .before) .is) (c .impact .ensures))
+    (λ c. rw (c .before .enum-told2 .given .1, book (c .before .before .before) .is) (c .impact2 .ensures)))
