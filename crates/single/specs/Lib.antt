@@ -9,3 +9,4 @@ pub mod Ledgers
 pub mod Lines
 pub mod Receivers
 pub mod Shown
+pub mod InPlace
