@@ -1,1 +1,4 @@
-pub mod Told
+pub mod Frames
+pub mod Refusals
+pub mod Ranges
+pub mod Writers

@@ -1,1 +1,6 @@
-pub mod Kinds
+pub mod Books
+pub mod Listings
+pub mod Ledgers
+pub mod Feeds
+pub mod Receivers
+pub mod Examples

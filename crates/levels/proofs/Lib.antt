@@ -1,6 +1,7 @@
 pub mod Changes
 pub mod Depths
 pub mod Edits
+pub mod Ends
 pub mod Flags
 pub mod Gaps
 pub mod Orders

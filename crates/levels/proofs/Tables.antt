@@ -2,10 +2,10 @@
 use Prim.Native.Nat.{ℕ, zero, suc, _+_, _≤_, _<_}
 use native.Mathlib.Omega.{arith}
 use mathlib.Core.Path.{_≡_, refl, ap, sym, _∙_}
-use mathlib.Core.Bool.{Bool, true, false, _&&_, and-eq-true-iff, and-false, and-assoc}
+use mathlib.Core.Bool.{Bool, true, false, _&&_, and-eq-true-iff, and-false}
 use mathlib.Core.List.{List, [], _∷_}
 use lib.ListN.{length, take, drop, getD, length-map, length-take}
-use lib.Seq.{take-all, length-take-le}
+use lib.Seq.{length-take-le}
 use lib.Dec.{leb, leb·zero}
 use borrow.Author.Tests.{leb-true, le-leb, lt-leb}
 use Rattle.types.specs.Limits.{within, isPrice, isQuantity, maxLevels, maxPrice, maxQuantity}
@@ -74,6 +74,12 @@ crossed true true c d = refl
 crossed true false c d = sym (and-false c)
 crossed false b c d = refl
 
+regrouped : (a b c d e : Bool) → a && ((b && c) && (d && e)) ≡ d && ((a && b) && (c && e))
+regrouped true true true d e = refl
+regrouped true true false d e = sym (and-false d)
+regrouped true false c d e = sym (and-false d)
+regrouped false b c d e = sym (and-false d)
+
 paired-limits : (ps qs : List ℕ) → length ps ≡ length qs → every inLimits (paired ps qs) ≡ every (within 1 maxPrice) ps && every (within 0 maxQuantity) qs
 unfolding every
 paired-limits [] [] e = refl
@@ -115,19 +121,15 @@ module _ (t : Levels) (w : Sized t) (n : t .count ≤ maxLevels) where
   pub levels-end : (i : ℕ) → t .count ≤ i → drop i (levels t) ≡ []
   levels-end i h = rw (drop-paired i _ _ even, run-end (t .prices) (t .count) (omega arith) i h)
 
-  -- well-formedness, one fact of one row after the other
+  -- well-formedness, one row after the other
   pub by-rows :
       (s : Side) →
       wellFormed s t ≡
-      inOrder s (take (t .count) (t .prices)) &&
-      (every (within 1 maxPrice) (take (t .count) (t .prices)) &&
-      (every (within 0 maxQuantity) (take (t .count) (t .quantities)) &&
-      (zeros (drop (t .count) (take maxLevels (t .prices))) && zeros (drop (t .count) (take maxLevels (t .quantities))))))
+      zeros (drop (t .count) (t .prices)) &&
+      ((inOrder s (take (t .count) (t .prices)) && every (within 1 maxPrice) (take (t .count) (t .prices))) &&
+      (every (within 0 maxQuantity) (take (t .count) (t .quantities)) && zeros (drop (t .count) (t .quantities))))
   unfolding wellFormed
-  by-rows s =
-      let p = take-all maxLevels (t .prices) (omega arith) in
-      let q = take-all maxLevels (t .quantities) (omega arith) in
-      rw (le-leb _ _ n, levels-prices, paired-limits _ _ even, p, q, and-assoc (every (within 1 maxPrice) (take (t .count) (t .prices))))
+  by-rows s = rw (le-leb _ _ n, levels-prices, paired-limits _ _ even) (regrouped (inOrder s (take (t .count) (t .prices))) _ _ (zeros (drop (t .count) (t .prices))) _)
 
 module _ (s : Side) (t : Levels) (w : Sized t) (f : Formed s t) where
   -- a table by the rules is made of its levels again

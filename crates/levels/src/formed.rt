@@ -1,11 +1,12 @@
 // Whether two rows and a count are a well-formed side: one fact a loop, each kept in a flag.
 ghost use mathlib.Core.Path.{_≡_};
+ghost use mathlib.Core.Bool.{_&&_};
 ghost use Prim.Native.Nat.{_≤_};
 ghost use lib.ListN.{length, take, drop};
-ghost use Rattle.types.specs.Limits.{within};
+ghost use Rattle.types.specs.Limits.{within, maxPrice, maxQuantity};
 ghost use Rattle.levels.specs.Order.{inOrder};
 ghost use Rattle.levels.specs.Table.{rows};
-ghost use Rattle.levels.specs.Formed.{every, wellFormed};
+ghost use Rattle.levels.specs.Formed.{every, zeros, wellFormed};
 use crate::search::ahead;
 use types::Side;
 
@@ -51,6 +52,34 @@ pub fn ordered(side: Side, prices: &[u32; 128], n: usize) -> bool
     ok
 }
 
+// Whether the first `n` prices are in order and in the limits: in order, the first and the last are in them only if all are.
+fn prices_fit(side: Side, prices: &[u32; 128], n: usize) -> bool
+    requires { ⌜ (length (now prices) ≡ 128) × (n ≤ 128) ⌝ }
+    ensures { λ r. ⌜ r ≡ inOrder side (take n (now (prices .entry))) && every (within 1 maxPrice) (take n (now (prices .entry))) ⌝ }
+{
+    if !ordered(side, prices, n) {
+        return false;
+    }
+    if n == 0 {
+        return true;
+    }
+    if !fits(prices[0], 1, types::MAX_PRICE) {
+        return false;
+    }
+    fits(prices[n - 1], 1, types::MAX_PRICE)
+}
+
+// Whether the first `n` quantities are in the limits and the others 0: 0 is in them, so the loop's end need not be `n`.
+fn quantities_fit(quantities: &[u32; 128], n: usize) -> bool
+    requires { ⌜ (length (now quantities) ≡ 128) × (n ≤ 128) ⌝ }
+    ensures { λ r. ⌜ r ≡ every (within 0 maxQuantity) (take n (now (quantities .entry))) && zeros (drop n (now (quantities .entry))) ⌝ }
+{
+    if !all_within(quantities, n, 128, 0, 0) {
+        return false;
+    }
+    all_within(quantities, 0, 128, 0, types::MAX_QUANTITY)
+}
+
 // Whether the rows and the count are a well-formed side.
 pub fn well_formed<'a>(
     side: Side,
@@ -66,17 +95,11 @@ pub fn well_formed<'a>(
     if 128 < n {
         return false;
     }
-    if !ordered(side, prices, n) {
-        return false;
-    }
-    if !all_within(prices, 0, n, 1, types::MAX_PRICE) {
-        return false;
-    }
-    if !all_within(quantities, 0, n, 0, types::MAX_QUANTITY) {
-        return false;
-    }
     if !all_within(prices, n, 128, 0, 0) {
         return false;
     }
-    all_within(quantities, n, 128, 0, 0)
+    if !prices_fit(side, prices, n) {
+        return false;
+    }
+    quantities_fit(quantities, n)
 }

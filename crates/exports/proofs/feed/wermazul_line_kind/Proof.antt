@@ -1,9 +1,9 @@
 -- `exports::wermazul_line_kind` meets its contract: each arm answers its frame's kind.
 use borrow.Author.Needs.{needs}
 use Rattle.lines.specs.Decode.{decode}
-use Rattle.exports.proofs.Told.{told-kind}
-use Rattle.exports.proofs.wermazul_line_kind.Statement.{statement}
-use Rattle.exports.proofs.wermazul_line_kind.Tie as tie
+use Rattle.exports.proofs.Frames.{told-kind}
+use Rattle.exports.proofs.feed.wermazul_line_kind.Statement.{statement}
+use Rattle.exports.proofs.feed.wermazul_line_kind.Tie as tie
 
 pub wermazul-line-kind-spec : {M : Type 1} → statement M
 wermazul-line-kind-spec =

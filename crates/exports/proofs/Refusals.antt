@@ -1,0 +1,25 @@
+-- Numbers that name nothing are told alike, whatever the answer would have carried.
+use Prim.Native.Nat.{ℕ, _≤_}
+use mathlib.Core.Path.{_≡_}
+use mathlib.Core.List.{List}
+use lib.IntN.{ℤ}
+use lib.ListN.{List·getD-eq-default}
+use Rattle.levels.proofs.Flags.{by}
+use Rattle.orderbook.specs.declared.OrderBook.{OrderBook}
+use Rattle.orderbook.specs.Book.{isBook}
+use Rattle.depth.specs.Written.{placesOf}
+use Rattle.position.specs.declared.PositionLedger.{PositionLedger}
+use Rattle.numbered.specs.Numbers.{tell, nothing, oneNumber}
+use Rattle.exports.specs.Books.{unnamed}
+use Rattle.exports.specs.Ledgers as L
+
+pub told-unnamed : {A : Type 0} (f : A → List ℤ) (b : OrderBook) → tell nothing (unnamed b) ≡ tell f (unnamed b)
+told-unnamed f b = by (isBook b) (λ e. rw e) (λ e. rw e)
+
+pub told-unplaced : (room : ℕ) (b : OrderBook) → tell nothing (unnamed b) ≡ tell oneNumber (placesOf room (unnamed b))
+told-unplaced room b = by (isBook b) (λ e. rw e) (λ e. rw e)
+
+-- worths end at 3
+pub worth-unnamed : (l : PositionLedger) (n : ℕ) (prices : List ℕ) → 4 ≤ n → L.worthBy l n prices ≡ tell nothing (L.unnamed l)
+unfolding L.worthBy
+worth-unnamed l n prices h = List·getD-eq-default (L.worths l prices) (tell nothing (L.unnamed l)) {n = n} h

@@ -1,0 +1,19 @@
+-- `book::wermazul_remove_all` meets its contract: the side is emptied if its number names one.
+use mathlib.Core.Path.{ap, _∙_}
+use borrow.Author.Tests.{lt-leb, le-leb}
+use borrow.Author.Needs.{needs}
+use Rattle.exports.specs.Books.{bookTold, clearedBy}
+use Rattle.exports.proofs.book.wermazul_remove_all.Statement.{statement}
+use Rattle.exports.proofs.book.wermazul_remove_all.Tie as tie
+
+pub wermazul-remove-all-spec : {M : Type 1} → statement M
+unfolding clearedBy
+wermazul-remove-all-spec =
+    tie.close
+    (tie.spec
+    (λ c κs. search needs)
+    (λ c. rw (c .unchanged .ensures, lt-leb _ _ (c .before .if1 .taken)))
+    (λ c κs. search needs)
+    (λ c κs. search needs)
+    (λ c κs. search needs)
+    (λ c. c .given .ensures ∙ ap bookTold (c .before .remove-all .ensures) ∙ rw (c .before .before .side-of .ensures, le-leb _ _ (c .before .before .before .if1 .left))))

@@ -1,0 +1,14 @@
+-- `feed::wermazul_write_snapshot` meets its contract: what the writer answered is told.
+use borrow.Author.Needs.{needs}
+use Rattle.exports.proofs.Writers.{line-wrote}
+use Rattle.exports.proofs.feed.wermazul_write_snapshot.Statement.{statement}
+use Rattle.exports.proofs.feed.wermazul_write_snapshot.Tie as tie
+
+pub wermazul-write-snapshot-spec : {M : Type 1} → statement M
+wermazul-write-snapshot-spec =
+    tie.close
+    (tie.spec
+    (λ c κs. search needs)
+    (λ c κs. search needs)
+    (λ c. search needs)
+    (λ c. line-wrote _ _ _ _ (c .of-number .ensures) _ (c .before .before .before .write-snapshot .ensures)))

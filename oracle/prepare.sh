@@ -1,0 +1,71 @@
+# For oracle/run, oracle/mutants and oracle/replay: source this file in the repository's root.
+#
+# Gives: prepare FOLDER   lays out target/oracle: the published modules of FOLDER, unchanged, beside stand-ins for the two that were not
+#                         supplied, and the crate that compares
+#        build            builds it; the program is $PROGRAM
+#        oracle ARGUMENTS...   runs it
+# Takes: WORK_NAME, another folder of target to work in
+
+. bindings/rust-env.sh
+WORK=$PWD/target/${WORK_NAME:-oracle}
+PROGRAM=$WORK/target/$TARGET/release/oracle
+PUBLISHED="error.rs orderbook/mod.rs position/mod.rs"
+# The library as it stands now, unless an archive is named.
+if [ -z "${WERMAZUL_ARCHIVE:-}" ]; then
+  echo "Building the library: rt staticlib exports" >&2
+  rt staticlib exports >&2
+  export WERMAZUL_ARCHIVE=$PWD/target/staticlib/libexports.a
+fi
+
+# Copies a file where it differs, so that what is built stays built.
+put() {
+  cmp -s "$1" "$2" || cp "$1" "$2"
+}
+
+# Copies the published modules and compares each copy with its source.
+copy_published() {
+  for module in $PUBLISHED; do
+    if [ ! -e "$1/src/$module" ]; then
+      echo "The published modules are not in $1: src/$module is missing." >&2
+      echo "Give the folder that holds their src as the argument (by default ../shared/docs/src beside the repository)." >&2
+      exit 1
+    fi
+    put "$1/src/$module" "$WORK/original/src/$module"
+    cmp "$1/src/$module" "$WORK/original/src/$module"
+  done
+}
+
+# Where Debian's sources of the two crates are installed, they are used, and no network.
+use_debian_sources() {
+  local registry=/usr/share/cargo/registry
+  OFFLINE=
+  if [ -d $registry/rust_decimal-1.23.1 ] && [ -d $registry/thiserror-1.0.38 ]; then
+    printf '%s\n' '[source.crates-io]' 'replace-with = "debian"' '[source.debian]' "directory = \"$registry\"" >"$WORK/.cargo/config.toml"
+    OFFLINE=--offline
+  else
+    echo "rust_decimal and thiserror are fetched; Debian 12 has them as librust-rust-decimal-dev and librust-thiserror-dev." >&2
+  fi
+}
+
+prepare() {
+  local stand_ins=oracle/stand_ins
+  mkdir -p "$WORK/original/src/orderbook" "$WORK/original/src/position" "$WORK/original_checked" "$WORK/.cargo"
+  copy_published "$1"
+  put $stand_ins/lib.rs "$WORK/original/src/lib.rs"
+  put $stand_ins/types.rs "$WORK/original/src/types.rs"
+  put $stand_ins/kelly.rs "$WORK/original/src/position/kelly.rs"
+  put $stand_ins/Cargo.toml "$WORK/original/Cargo.toml"
+  # The same sources a second time, to be built with overflow checks.
+  sed 's/name = "original"/name = "original_checked"/' $stand_ins/Cargo.toml >"$WORK/original_checked/Cargo.toml"
+  printf '\n[lib]\npath = "../original/src/lib.rs"\n' >>"$WORK/original_checked/Cargo.toml"
+  put oracle/Cargo.toml "$WORK/Cargo.toml"
+  use_debian_sources
+}
+
+build() {
+  (cd "$WORK" && run_cargo build --release $OFFLINE --quiet)
+}
+
+oracle() {
+  $RUNNER "$PROGRAM" "$@"
+}
