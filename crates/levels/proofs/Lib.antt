@@ -9,6 +9,7 @@ pub mod Pads
 pub mod Places
 pub mod Rows
 pub mod Shifts
+pub mod Steps
 pub mod Tables
 pub mod Turns
 pub mod Walks

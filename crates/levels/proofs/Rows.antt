@@ -1,4 +1,4 @@
--- The first n places of a row, from the place i on: what a test, an order and a count say of them by the place at i and the rest.
+-- The first n places of a row, from the place i on: what a test, a count of steps and a count say of them by the place at i and the rest.
 use Prim.Native.Nat.{ℕ, suc, _+_, _≤_, _<_}
 use native.Mathlib.Omega.{arith}
 use native.Mathlib.Nat.{eq-or-lt-of-le}
@@ -10,7 +10,7 @@ use mathlib.Core.List.{List, [], _∷_}
 use lib.ListN.{length, take, drop, getD, drop-of-length-le}
 use lib.Seq.{length-take-le, drop-cons, getD-take}
 use Rattle.types.specs.declared.Side.{Side}
-use Rattle.levels.specs.Order.{aheadOf, leads, inOrder, countAhead}
+use Rattle.levels.specs.Order.{aheadOf, stepTo, steps, countAhead}
 use Rattle.levels.specs.Formed.{every}
 
 module _ (xs : List ℕ) (n : ℕ) (l : n ≤ length xs) where
@@ -36,13 +36,13 @@ module _ (xs : List ℕ) (n : ℕ) (l : n ≤ length xs) where
     unfolding every
     every-end f h = rw (run-end i h)
 
-    pub order-turn : (s : Side) → i + 1 < n → inOrder s (drop i (take n xs)) ≡ aheadOf s (getD xs i 0) (getD xs (i + 1) 0) && inOrder s (drop (i + 1) (take n xs))
-    unfolding inOrder leads
-    order-turn s h = rw (run-cons i (omega arith), run-cons (i + 1) h)
+    pub steps-turn : (s : Side) → i + 1 < n → steps s (drop i (take n xs)) ≡ cond (aheadOf s (getD xs i 0) (getD xs (i + 1) 0)) 1 0 + steps s (drop (i + 1) (take n xs))
+    unfolding steps stepTo
+    steps-turn s h = rw (run-cons i (omega arith), run-cons (i + 1) h)
 
-    pub order-end : (s : Side) → n ≤ i + 1 → inOrder s (drop i (take n xs)) ≡ true
-    unfolding inOrder leads
-    order-end s h =
+    pub steps-end : (s : Side) → n ≤ i + 1 → steps s (drop i (take n xs)) ≡ 0
+    unfolding steps stepTo
+    steps-end s h =
         ⊎-elim
         (λ e. rw (run-cons i (omega arith), run-end (i + 1) h))
         (λ e. rw (run-end i (omega arith)))

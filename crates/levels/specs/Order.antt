@@ -23,6 +23,16 @@ unfoldable pub inOrder : Side → List ℕ → Bool
 inOrder s [] = true
 inOrder s (x ∷ xs) = leads s x xs && inOrder s xs
 
+-- 1 for a price ahead of the next, 0 for one that is not or has none
+unfoldable pub stepTo : Side → ℕ → List ℕ → ℕ
+stepTo s x [] = 0
+stepTo s x (y ∷ ys) = cond (aheadOf s x y) 1 0
+
+-- how many of the prices are ahead of the next
+unfoldable pub steps : Side → List ℕ → ℕ
+steps s [] = 0
+steps s (x ∷ xs) = stepTo s x xs + steps s xs
+
 -- how many of the prices are ahead of p
 unfoldable pub countAhead : Side → ℕ → List ℕ → ℕ
 countAhead s p [] = 0
