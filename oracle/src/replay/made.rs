@@ -133,6 +133,7 @@ pub fn write(seed: u64, folder: &str) -> bool {
     let questions = replay.seen.iter().filter(|it| it.0 == 4).count();
     let kinds: BTreeSet<u64> = replay.seen.iter().map(|it| it.0).collect();
     println!("{} operations of {} kinds, {} questions, answers numbered {:?}", replay.lines, kinds.len(), questions, replay.numbers);
+    println!("{} deltas and questions left out, in which the two differ as a class says", replay.left_out);
     let whole = kinds.len() == 12 && questions == 28 && [0, 4, 5, 7, 8, 10, 13].iter().all(|it| replay.numbers.contains(it));
     let put = |name: &str, text: &str| fs::write(Path::new(folder).join(name), text);
     let written = put("stdin", &replay.input).and_then(|()| put("stdout", &replay.output));

@@ -15,7 +15,7 @@ use crate::books::Pair;
 use crate::calls::{Call, CALLS};
 use crate::forms::*;
 use crate::ledgers::Accounts;
-use crate::original::money;
+use crate::original::{money, released};
 use crate::ours::changes;
 use crate::said::Said;
 use crate::tally::{Tally, Verdict};
@@ -31,6 +31,8 @@ struct Replay {
     input: String,
     output: String,
     lines: usize,
+    /// Deltas and questions of a class of differences.
+    left_out: usize,
     /// What the list has: operations with their question or worth, and answers' numbers.
     seen: BTreeSet<(u64, u64)>,
     numbers: BTreeSet<u64>,
@@ -69,6 +71,7 @@ impl Replay {
             input: String::new(),
             output: String::new(),
             lines: 0,
+            left_out: 0,
             seen: BTreeSet::new(),
             numbers: BTreeSet::new(),
         }
@@ -88,10 +91,11 @@ impl Replay {
         self.put((0, 0), "0".to_string(), "0".to_string());
     }
 
-    /// A delta that both answer alike; another is left out, and changes neither.
+    /// A delta with the original's own answer, if both answer alike; another is left out, and changes neither.
     fn delta(&mut self, delta: &Delta) {
-        let said = self.pair.delta(&mut self.tally, delta);
-        if ![0, 4, 5].contains(&said.number) {
+        let said = released::guarded(|| released::apply(&mut self.pair.theirs.clone(), delta));
+        if self.pair.delta(&mut self.tally, delta) != said {
+            self.left_out += 1;
             return;
         }
         let Delta { side, action, price, quantity, sequence } = *delta;
@@ -120,6 +124,7 @@ impl Replay {
         let quotient = is_quotient(call.question);
         let line = answer(&theirs, quotient);
         if line != answer(&changes::ask(call, &self.pair.ours, asked), quotient) {
+            self.left_out += 1;
             return;
         }
         let Asked { side, small, large } = used(call.question, asked);
