@@ -10,13 +10,6 @@
 WORK=$PWD/target/${WORK_NAME:-oracle}
 PROGRAM=$WORK/target/$TARGET/release/oracle
 PUBLISHED="error.rs orderbook/mod.rs position/mod.rs"
-# The library as it stands now, unless an archive is named.
-if [ -z "${WERMAZUL_ARCHIVE:-}" ]; then
-  echo "Building the library: rt staticlib exports" >&2
-  rt staticlib exports >&2
-  export WERMAZUL_ARCHIVE=$PWD/target/staticlib/libexports.a
-fi
-
 # Copies a file where it differs, so that what is built stays built.
 put() {
   cmp -s "$1" "$2" || cp "$1" "$2"
@@ -62,7 +55,17 @@ prepare() {
   use_debian_sources
 }
 
+# The library as it stands now, unless an archive is named.
+make_archive() {
+  if [ -z "${WERMAZUL_ARCHIVE:-}" ]; then
+    echo "Building the library: rt staticlib exports" >&2
+    rt staticlib exports >&2
+    export WERMAZUL_ARCHIVE=$PWD/target/staticlib/libexports.a
+  fi
+}
+
 build() {
+  make_archive
   (cd "$WORK" && run_cargo build --release $OFFLINE --quiet)
 }
 

@@ -1,0 +1,39 @@
+#!/usr/bin/env bash
+# Times the book of this library, by its Rust crate, beside the original and two plain Rust books, in one process: a million deltas, and
+# questions to the book that results. Compares all answers first. Writes the tables of docs/FIGURES.md.
+#   bench/book.sh [FOLDER]     FOLDER holds the published src; by default ../shared/docs/src beside the repository
+#   RUNS=1 bench/book.sh       another number of runs than 5; each takes about a quarter of a minute
+# Needs: the Rattle toolchain, Rust 1.66 or newer, the published modules, and the crates rust_decimal 1.23.1 and thiserror 1.0.38 (Debian
+# 12's packages librust-rust-decimal-dev and librust-thiserror-dev, else cargo fetches them).
+set -euo pipefail
+cd "$(dirname "${BASH_SOURCE[0]}")/.."
+machine=$(uname -sm)
+if [ "$machine" = "Linux x86_64" ]; then
+  echo "This machine is x86-64: the archive as delivered."
+else
+  echo "This machine is ${machine#* }: the archive delivered is for x86-64. Here its module is compiled for this processor instead."
+fi
+NATIVE=1
+WORK_NAME=bench_book
+. oracle/prepare.sh
+prepare "${1:-../shared/docs/src}"
+
+if [ "$machine" = "Linux x86_64" ]; then
+  rt staticlib exports >/dev/null
+  export WERMAZUL_ARCHIVE=$PWD/target/staticlib/libexports.a
+else
+  bench/native-archive.sh
+  export WERMAZUL_ARCHIVE=$PWD/target/bench/native/libexports.a
+fi
+mkdir -p "$WORK/book"
+put bench/book/Cargo.toml "$WORK/book/Cargo.toml"
+(cd "$WORK/book" && run_cargo build --release $OFFLINE --quiet)
+program=$WORK/book/target/$TARGET/release/book
+
+echo "$(rustc --version | cut -d' ' -f1,2), $(nproc) cores, load before the runs: $(cut -d' ' -f1-3 /proc/loadavg)"
+rm -f "$WORK"/run.*
+for run in $(seq "${RUNS:-5}"); do
+  "$program" time >"$WORK/run.$run"
+done
+echo
+"$program" table "$WORK"/run.*

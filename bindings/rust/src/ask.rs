@@ -1,0 +1,243 @@
+//! Questions and listings as values, and the answers to them. Every method that asks goes by these.
+use crate::ffi::{Told, Whole};
+use crate::{Error, PriceLevel, Side};
+
+/// Any question to a book. A second name of the original shares its twin's question, and a side is an argument.
+#[derive(Clone, Copy, Debug, PartialEq, Eq)]
+pub enum Question {
+    /// The best level of a side.
+    Best(Side),
+    /// Its price.
+    BestPrice(Side),
+    /// Its quantity.
+    BestQuantity(Side),
+    /// Both best levels.
+    BestQuote,
+    /// Best ask less best bid.
+    Spread,
+    /// Bid and ask over 2.
+    MidPrice,
+    /// 200 times the spread, over bid and ask.
+    SpreadPct,
+    /// 20000 times the spread, over bid and ask.
+    SpreadBps,
+    /// The prices, each weighted with the other side's best quantity.
+    WeightedMid,
+    /// The quantity of a side's level at a price.
+    DepthAt(Side, u32),
+    /// Whether a side has a level at a price.
+    HasPrice(Side, u32),
+    /// How many levels a side has.
+    LevelCount(Side),
+    /// How many levels both sides have.
+    TotalLevels,
+    /// The sequence of the last delta taken.
+    Sequence,
+    /// Whether the book has no levels.
+    IsEmpty,
+    /// Whether the best bid reaches the best ask: never, in a book.
+    IsCrossed,
+    /// The quantity of a side.
+    TotalVolume(Side),
+    /// The quantity of a side at a price and better.
+    CumulativeDepth(Side, u32),
+    /// The quantity of the best levels of a side, as many as given.
+    CumulativeQuantity(Side, usize),
+    /// The smallest gap between neighbouring prices of either side.
+    TickSize,
+    /// The bids' quantity less the asks', over both.
+    Imbalance,
+    /// The quantity of the best bids over that of the best asks, as many a side as given.
+    DepthRatio(usize),
+    /// The bids' quantity over the asks'.
+    BidAskRatio,
+    /// The asks' quantity over the bids'.
+    AskBidRatio,
+    /// The quantity of the best bids over that of both sides, as many levels a side as given.
+    BidDepthSkew(usize),
+    /// The cost of filling a target from a side, over the target.
+    VwapForQty(Side, u32),
+    /// The same for a trade: Bid buys from the asks, Ask sells to the bids.
+    PriceImpact(Side, u32),
+    /// The price of the level at which the running total of a side reaches the target.
+    PriceAtVolume(Side, u64),
+}
+
+/// What a question is answered with.
+#[derive(Clone, Copy, Debug, PartialEq, Eq)]
+pub enum Answer {
+    /// A price, a quantity, a count or a sequence.
+    Number(u64),
+    /// Yes or no.
+    Flag(bool),
+    /// A level.
+    Level(PriceLevel),
+    /// Both best levels.
+    Quote(Quote),
+    /// An exact quotient.
+    Ratio(Quotient),
+}
+
+/// The best bid and the best ask.
+#[derive(Clone, Copy, Debug, PartialEq, Eq)]
+pub struct Quote {
+    /// The best bid.
+    pub bid: PriceLevel,
+    /// The best ask.
+    pub ask: PriceLevel,
+}
+
+/// An exact quotient, not reduced. The denominator is never 0.
+#[derive(Clone, Copy, Debug, PartialEq, Eq)]
+pub struct Quotient {
+    /// What is divided.
+    pub numerator: i64,
+    /// By what.
+    pub denominator: u64,
+}
+
+/// What is listed into a lent buffer: price, quantity, price, quantity.
+#[derive(Clone, Copy, Debug, PartialEq, Eq)]
+pub enum Listing {
+    /// The best levels of a side, at most as many as given.
+    Top(Side, usize),
+    /// The best levels of both sides, at most as many a side as given, bids first.
+    Snapshot(usize),
+    /// The levels of a side from one price to another, upward.
+    Between(Side, u32, u32),
+}
+
+/// The archive tells values alone; what they are hangs on the question.
+pub(crate) enum Kind {
+    Number,
+    Flag,
+    Level,
+    Quote,
+    Ratio,
+}
+
+/// A question as the archive takes it.
+pub(crate) struct Asked {
+    pub number: u64,
+    pub kind: Kind,
+    pub side: u64,
+    pub small: u32,
+    pub large: u64,
+}
+
+impl Question {
+    pub(crate) fn asked(self) -> Asked {
+        use Kind::{Flag, Level, Number, Quote, Ratio};
+        // A question without a side is asked with Bid, one without numbers with 0.
+        let (number, kind, side, small, large) = match self {
+            Question::Best(side) => (0, Level, side, 0, 0),
+            Question::BestPrice(side) => (1, Number, side, 0, 0),
+            Question::BestQuantity(side) => (2, Number, side, 0, 0),
+            Question::BestQuote => (3, Quote, Side::Bid, 0, 0),
+            Question::Spread => (4, Number, Side::Bid, 0, 0),
+            Question::MidPrice => (5, Ratio, Side::Bid, 0, 0),
+            Question::SpreadPct => (6, Ratio, Side::Bid, 0, 0),
+            Question::SpreadBps => (7, Ratio, Side::Bid, 0, 0),
+            Question::WeightedMid => (8, Ratio, Side::Bid, 0, 0),
+            Question::DepthAt(side, price) => (9, Number, side, price, 0),
+            Question::HasPrice(side, price) => (10, Flag, side, price, 0),
+            Question::LevelCount(side) => (11, Number, side, 0, 0),
+            Question::TotalLevels => (12, Number, Side::Bid, 0, 0),
+            Question::Sequence => (13, Number, Side::Bid, 0, 0),
+            Question::IsEmpty => (14, Flag, Side::Bid, 0, 0),
+            Question::IsCrossed => (15, Flag, Side::Bid, 0, 0),
+            Question::TotalVolume(side) => (16, Number, side, 0, 0),
+            Question::CumulativeDepth(side, price) => (17, Number, side, price, 0),
+            Question::CumulativeQuantity(side, n) => (18, Number, side, 0, n as u64),
+            Question::TickSize => (19, Number, Side::Bid, 0, 0),
+            Question::Imbalance => (20, Ratio, Side::Bid, 0, 0),
+            Question::DepthRatio(n) => (21, Ratio, Side::Bid, 0, n as u64),
+            Question::BidAskRatio => (22, Ratio, Side::Bid, 0, 0),
+            Question::AskBidRatio => (23, Ratio, Side::Bid, 0, 0),
+            Question::BidDepthSkew(n) => (24, Ratio, Side::Bid, 0, n as u64),
+            Question::VwapForQty(side, target) => (25, Ratio, side, target, 0),
+            Question::PriceImpact(side, target) => (26, Ratio, side, target, 0),
+            Question::PriceAtVolume(side, target) => (27, Number, side, 0, target),
+        };
+        Asked { number, kind, side: side as u64, small, large }
+    }
+}
+
+/// A listing as the archive takes it.
+pub(crate) struct Listed {
+    pub number: u64,
+    pub side: u64,
+    pub from: u64,
+    pub to: u32,
+}
+
+impl Listing {
+    pub(crate) fn listed(self) -> Listed {
+        let (number, side, from, to) = match self {
+            Listing::Top(side, n) => (0, side, n as u64, 0),
+            Listing::Snapshot(n) => (1, Side::Bid, n as u64, 0),
+            Listing::Between(side, lo, hi) => (2, side, u64::from(lo), hi),
+        };
+        Listed { number, side: side as u64, from, to }
+    }
+}
+
+fn level(price: Whole, quantity: Whole) -> PriceLevel {
+    PriceLevel { price: price.word(), quantity: quantity.word() }
+}
+
+const OF_ITS_KIND: &str = "each question has answers of one kind";
+
+impl Answer {
+    /// What was told, as an answer of its kind.
+    pub(crate) fn of(kind: Kind, told: Told) -> Result<Answer, Error> {
+        let [first, second, third, fourth] = told.done()?;
+        Ok(match kind {
+            Kind::Number => Answer::Number(first.long()),
+            Kind::Flag => Answer::Flag(first.long() != 0),
+            Kind::Level => Answer::Level(level(first, second)),
+            Kind::Quote => Answer::Quote(Quote { bid: level(first, second), ask: level(third, fourth) }),
+            Kind::Ratio => Answer::Ratio(Quotient { numerator: first.signed(), denominator: second.long() }),
+        })
+    }
+
+    pub(crate) fn number(self) -> u64 {
+        match self {
+            Answer::Number(x) => x,
+            _ => unreachable!("{OF_ITS_KIND}"),
+        }
+    }
+
+    /// A price or the quantity of a level, which fit 32 bits.
+    pub(crate) fn word(self) -> u32 {
+        self.number().try_into().expect("prices and quantities of levels are within their limits")
+    }
+
+    pub(crate) fn flag(self) -> bool {
+        match self {
+            Answer::Flag(x) => x,
+            _ => unreachable!("{OF_ITS_KIND}"),
+        }
+    }
+
+    pub(crate) fn level(self) -> PriceLevel {
+        match self {
+            Answer::Level(x) => x,
+            _ => unreachable!("{OF_ITS_KIND}"),
+        }
+    }
+
+    pub(crate) fn quote(self) -> Quote {
+        match self {
+            Answer::Quote(x) => x,
+            _ => unreachable!("{OF_ITS_KIND}"),
+        }
+    }
+
+    pub(crate) fn ratio(self) -> Quotient {
+        match self {
+            Answer::Ratio(x) => x,
+            _ => unreachable!("{OF_ITS_KIND}"),
+        }
+    }
+}

@@ -1,0 +1,103 @@
+//! The position ledger.
+use crate::ffi;
+use crate::{Error, Side, SYMBOLS};
+
+/// A trade to book.
+#[derive(Clone, Copy, Debug, PartialEq, Eq)]
+pub struct Fill {
+    /// 0..=31.
+    pub symbol: u32,
+    /// Bid buys, Ask sells.
+    pub side: Side,
+    /// Lots, 0..=1,000,000,000.
+    pub quantity: u32,
+    /// 1..=100,000,000.
+    pub price: u32,
+    /// -10^15..=10^15; a negative one is paid to us.
+    pub commission: i64,
+}
+
+/// What is held of one symbol.
+#[repr(C)]
+#[derive(Clone, Copy, Debug, Default, PartialEq, Eq)]
+pub struct Position {
+    /// Lots, negative if short, within 10^9 of 0.
+    pub quantity: i64,
+    /// Their average price, rounded down; 0 exactly if there are none.
+    pub average: u32,
+    /// The profit realized so far, commissions taken off.
+    pub realized: i64,
+}
+
+/// Cash and one position a symbol. Any record may be made and asked: every call tests it, and refuses one that is no ledger with 1.
+#[repr(C)]
+#[derive(Clone, Copy, Debug, PartialEq, Eq)]
+pub struct PositionLedger {
+    /// Within 4·10^18 of 0.
+    pub cash: i64,
+    /// The commission paid so far.
+    pub commission: i64,
+    /// A position for each symbol.
+    pub positions: [Position; SYMBOLS],
+}
+
+impl PositionLedger {
+    /// A ledger with this cash and nothing else; 2 if the cash is outside its limit.
+    pub fn new(initial_cash: i64) -> Result<PositionLedger, Error> {
+        let made = unsafe { ffi::wermazul_ledger(initial_cash) };
+        made.told.done().map(|_| made.ledger)
+    }
+
+    /// Whether the record is a ledger.
+    pub fn is_ledger(&self) -> bool {
+        unsafe { ffi::wermazul_is_ledger(*self) != 0 }
+    }
+
+    fn become_told(&mut self, after: ffi::LedgerTold) -> Result<(), Error> {
+        *self = after.ledger;
+        after.told.done().map(|_| ())
+    }
+
+    /// Books a fill. A refused one leaves the ledger as it was.
+    pub fn apply_fill(&mut self, fill: Fill) -> Result<(), Error> {
+        let Fill { symbol, side, quantity, price, commission } = fill;
+        self.become_told(unsafe { ffi::wermazul_apply_fill(*self, symbol, side as u64, quantity, price, commission) })
+    }
+
+    /// Pays cash in, or out if the amount is negative.
+    pub fn deposit(&mut self, amount: i64) -> Result<(), Error> {
+        self.become_told(unsafe { ffi::wermazul_deposit(*self, amount) })
+    }
+
+    /// The unrealized profit of one symbol at a price.
+    pub fn checked_unrealized_pnl(&self, symbol: u32, current_price: u32) -> Result<i64, Error> {
+        let told = unsafe { ffi::wermazul_unrealized(*self, symbol, current_price) };
+        Ok(told.done()?[0].signed())
+    }
+
+    /// One of the four worths at prices, by its number.
+    fn worth(&self, worth: u64, prices: &[u32]) -> Result<i64, Error> {
+        let told = unsafe { ffi::wermazul_worth(*self, worth, prices.as_ptr(), prices.len()) };
+        Ok(told.done()?[0].signed())
+    }
+
+    /// The unrealized profit of all positions. The prices of all 32 symbols, 0 for none: here and below another length gives 2.
+    pub fn unrealized_pnl_total(&self, prices: &[u32]) -> Result<i64, Error> {
+        self.worth(0, prices)
+    }
+
+    /// Cash and what all positions are worth.
+    pub fn net_liquidation_value(&self, prices: &[u32]) -> Result<i64, Error> {
+        self.worth(1, prices)
+    }
+
+    /// What the positions that have a price are worth; 10 if none has one.
+    pub fn net_market_exposure(&self, prices: &[u32]) -> Result<i64, Error> {
+        self.worth(2, prices)
+    }
+
+    /// Whether the net exposure is below a hundredth of the gross, or the gross is 0.
+    pub fn delta_neutral_check(&self, prices: &[u32]) -> Result<bool, Error> {
+        Ok(self.worth(3, prices)? != 0)
+    }
+}

@@ -1,0 +1,149 @@
+//! The ledger.
+use wermazul::{Error, Fill, Position, PositionLedger, Side, MAX_PRICE, SYMBOLS};
+
+fn fill(symbol: u32, side: Side, quantity: u32, price: u32, commission: i64) -> Fill {
+    Fill { symbol, side, quantity, price, commission }
+}
+
+/// A ledger with one fill a symbol.
+fn holding(cash: i64, fills: &[Fill]) -> PositionLedger {
+    let mut ledger = PositionLedger::new(cash).unwrap();
+    for &fill in fills {
+        ledger.apply_fill(fill).unwrap();
+    }
+    ledger
+}
+
+fn prices(given: &[(usize, u32)]) -> [u32; SYMBOLS] {
+    let mut prices = [0; SYMBOLS];
+    for &(symbol, price) in given {
+        prices[symbol] = price;
+    }
+    prices
+}
+
+#[test]
+fn new_ledgers() {
+    let flat = [Position::default(); SYMBOLS];
+    assert_eq!(PositionLedger::new(-7), Ok(PositionLedger { cash: -7, commission: 0, positions: flat }));
+    let most = 4_000_000_000_000_000_000;
+    assert_eq!(PositionLedger::new(most).map(|l| l.cash), Ok(most));
+    assert_eq!(PositionLedger::new(most + 1), Err(Error::OutOfLimits));
+    assert_eq!(PositionLedger::new(i64::MIN), Err(Error::OutOfLimits));
+}
+
+#[test]
+fn four_fills() {
+    let mut ledger = PositionLedger::new(10000).unwrap();
+    let fills =
+        [fill(31, Side::Bid, 3, 100, 2), fill(31, Side::Bid, 2, 101, 0), fill(31, Side::Ask, 4, 110, 1), fill(31, Side::Ask, 3, 90, 0)];
+    for fill in fills {
+        ledger.apply_fill(fill).unwrap();
+    }
+    assert_eq!((ledger.cash, ledger.commission), (10205, 3));
+    assert_eq!(ledger.positions[31], Position { quantity: -2, average: 90, realized: 27 });
+    assert!(ledger.positions[..31].iter().all(|p| *p == Position::default()));
+}
+
+#[test]
+fn too_little_cash() {
+    let mut ledger = PositionLedger::new(100).unwrap();
+    let before = ledger;
+    assert_eq!(ledger.apply_fill(fill(0, Side::Bid, 1, 99, 2)), Err(Error::InsufficientFunds { need: 101, have: 100 }));
+    assert_eq!(ledger, before);
+    ledger.apply_fill(fill(0, Side::Bid, 1, 99, 1)).unwrap();
+    assert_eq!(ledger.cash, 0);
+    let mut owing = PositionLedger::new(-5).unwrap();
+    assert_eq!(owing.apply_fill(fill(0, Side::Bid, 1, 2, -1)), Err(Error::InsufficientFunds { need: 1, have: -5 }));
+}
+
+#[test]
+fn deposits() {
+    let mut ledger = PositionLedger::new(3_500_000_000_000_000_000).unwrap();
+    let before = ledger;
+    assert_eq!(ledger.deposit(1_000_000_000_000_000_000), Err(Error::PastLimit));
+    assert_eq!(ledger.deposit(1_000_000_000_000_000_001), Err(Error::OutOfLimits));
+    assert_eq!(ledger, before);
+    ledger.deposit(-1_000_000_000_000_000_000).unwrap();
+    assert_eq!(ledger, PositionLedger { cash: 2_500_000_000_000_000_000, ..before });
+}
+
+#[test]
+fn fills_outside_the_limits() {
+    let mut ledger = PositionLedger::new(1000).unwrap();
+    let before = ledger;
+    let refused = [
+        fill(32, Side::Ask, 1, 1, 0),
+        fill(0, Side::Ask, 1_000_000_001, 1, 0),
+        fill(0, Side::Ask, 1, 0, 0),
+        fill(0, Side::Ask, 1, MAX_PRICE + 1, 0),
+        fill(0, Side::Ask, 1, 1, 1_000_000_000_000_001),
+    ];
+    for fill in refused {
+        assert_eq!(ledger.apply_fill(fill), Err(Error::OutOfLimits));
+        assert_eq!(ledger, before);
+    }
+}
+
+#[test]
+fn worths() {
+    // Long 3 of symbol 2 at 100, short 2 of symbol 30 at 50: cash 1000 - 300 + 100.
+    let ledger = holding(1000, &[fill(2, Side::Bid, 3, 100, 0), fill(30, Side::Ask, 2, 50, 0)]);
+    let both = prices(&[(2, 90), (30, 70)]);
+    assert_eq!(ledger.checked_unrealized_pnl(2, 90), Ok(-30));
+    assert_eq!(ledger.checked_unrealized_pnl(30, 45), Ok(10));
+    assert_eq!(ledger.checked_unrealized_pnl(32, 45), Err(Error::OutOfLimits));
+    assert_eq!(ledger.checked_unrealized_pnl(30, 0), Err(Error::OutOfLimits));
+    assert_eq!(ledger.unrealized_pnl_total(&both), Ok(-70));
+    assert_eq!(ledger.net_liquidation_value(&both), Ok(930));
+    assert_eq!(ledger.net_market_exposure(&both), Ok(130));
+    assert_eq!(ledger.net_market_exposure(&prices(&[(30, 70)])), Ok(-140));
+    assert_eq!(ledger.net_market_exposure(&prices(&[])), Err(Error::NoValue));
+    assert_eq!(ledger.unrealized_pnl_total(&prices(&[(2, 90)])), Err(Error::Unpriced { symbol: 30 }));
+    assert_eq!(ledger.delta_neutral_check(&prices(&[])), Err(Error::Unpriced { symbol: 2 }));
+}
+
+#[test]
+fn neutrality() {
+    let pair = |long, short| holding(1000, &[fill(0, Side::Bid, long, 1, 0), fill(1, Side::Ask, short, 1, 0)]);
+    let at_1 = prices(&[(0, 1), (1, 1)]);
+    assert_eq!(pair(51, 50).delta_neutral_check(&at_1), Ok(true));
+    assert_eq!(pair(101, 99).delta_neutral_check(&at_1), Ok(false));
+    assert_eq!(pair(0, 0).delta_neutral_check(&at_1), Ok(true));
+}
+
+#[test]
+fn prices_of_another_length() {
+    let ledger = PositionLedger::new(0).unwrap();
+    for length in [0, 31, 33] {
+        let prices = vec![1; length];
+        assert_eq!(ledger.unrealized_pnl_total(&prices), Err(Error::OutOfLimits));
+        assert_eq!(ledger.net_liquidation_value(&prices), Err(Error::OutOfLimits));
+        assert_eq!(ledger.net_market_exposure(&prices), Err(Error::OutOfLimits));
+        assert_eq!(ledger.delta_neutral_check(&prices), Err(Error::OutOfLimits));
+    }
+    assert_eq!(ledger.unrealized_pnl_total(&[1; 32]), Ok(0));
+}
+
+#[test]
+fn malformed_records_are_refused_everywhere() {
+    let spoil: [fn(&mut PositionLedger); 5] = [
+        |l| l.cash = 4_000_000_000_000_000_001,
+        |l| l.commission = i64::MIN,
+        |l| l.positions[31].average = 1,
+        |l| l.positions[0].quantity = 1,
+        |l| l.positions[31].realized = -4_000_000_000_000_000_001,
+    ];
+    for spoil in spoil {
+        let mut ledger = PositionLedger::new(1).unwrap();
+        assert!(ledger.is_ledger());
+        spoil(&mut ledger);
+        let record = ledger;
+        assert!(!ledger.is_ledger());
+        assert_eq!(ledger.apply_fill(fill(0, Side::Ask, 1, 1, 0)), Err(Error::NotARecord));
+        assert_eq!(ledger.deposit(1), Err(Error::NotARecord));
+        assert_eq!(ledger.checked_unrealized_pnl(0, 1), Err(Error::NotARecord));
+        assert_eq!(ledger.delta_neutral_check(&[1; 32]), Err(Error::NotARecord));
+        assert_eq!(ledger, record);
+    }
+}
