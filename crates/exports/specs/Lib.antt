@@ -1,4 +1,5 @@
 pub mod Books
+pub mod Walks
 pub mod Listings
 pub mod Ledgers
 pub mod Feeds

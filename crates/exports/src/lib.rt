@@ -1,13 +1,15 @@
-// What Rust and C link: thin functions on numbers, slices of numbers and records by value, over the library. An answer comes back as the
-// paper's number and values. Sides, actions, questions, listings and worths are named by their numbers; a number that names none gives 2,
-// after 1 for a record that is none.
-mod book; // book.rt: the book, its changes and its questions
-mod listing; // listing.rt: the depth calls
-mod ledger; // ledger.rt: the ledger
-mod feed; // feed.rt: the lines of the feed
-mod receiving; // receiving.rt: the receiver
+// What Rust and C link: thin functions on numbers, lent numbers and records by value, over the library. An answer comes back as the
+// paper's number and values. Sides, actions, questions, walks, listings and worths are named by their numbers; a number that names none
+// gives 2, after 1 for a record that is none.
+pub mod book; // book.rt: the book, its changes and its questions
+pub mod inplace; // inplace.rt: a book lent as its rows
+pub mod listing; // listing.rt: the depth calls
+pub mod ledger; // ledger.rt: the ledger
+pub mod feed; // feed.rt: the lines of the feed
+pub mod receiving; // receiving.rt: the receiver
 
 use numbered::Told;
+use orderbook::Counts;
 use orderbook::OrderBook;
 use position::PositionLedger;
 
@@ -15,6 +17,13 @@ use position::PositionLedger;
 #[repr(C)]
 pub struct BookTold {
     pub book: OrderBook,
+    pub told: Told,
+}
+
+// The counts beside a book's rows after a call, and the call's answer.
+#[repr(C)]
+pub struct CountsTold {
+    pub counts: Counts,
     pub told: Told,
 }
 

@@ -7,6 +7,7 @@ use lib.ListN.{getD}
 use lib.Signed.{ltZ}
 use Rattle.amount.specs.declared.Amount.{Amount}
 use Rattle.types.specs.Replies.{Reply, done, refused}
+use Rattle.quotient.specs.declared.Quotient.{Quotient}
 use Rattle.questions.specs.Asked.{Value, number, flag, level, quote, ratio}
 use Rattle.numbered.specs.declared.Whole.{Whole}
 use Rattle.numbered.specs.declared.Told.{Told}
@@ -44,10 +45,14 @@ yesOrNo x = pos (cond x 1 0) ∷ []
 abbrev pub oneAmount : Amount → List ℤ
 oneAmount x = x .value ∷ []
 
--- what the answer to a question carries: a level's price and quantity, the best bid's and then the best ask's, a ratio's numerator and denominator
+-- a ratio's numerator and denominator
+abbrev pub oneRatio : Quotient → List ℤ
+oneRatio x = x .numerator .value ∷ pos (x .denominator) ∷ []
+
+-- what the answer to a question carries: a level's price and quantity, the best bid's and then the best ask's, a ratio
 abbrev pub valuesIn : Value → List ℤ
 valuesIn (number x) = oneNumber x
 valuesIn (flag x) = yesOrNo x
 valuesIn (level x) = pos (x .price) ∷ pos (x .quantity) ∷ []
 valuesIn (quote x) = pos (x .bid .price) ∷ pos (x .bid .quantity) ∷ pos (x .ask .price) ∷ pos (x .ask .quantity) ∷ []
-valuesIn (ratio x) = x .numerator .value ∷ pos (x .denominator) ∷ []
+valuesIn (ratio x) = oneRatio x

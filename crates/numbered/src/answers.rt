@@ -4,12 +4,14 @@ ghost use mathlib.Core.List.{[], _∷_};
 ghost use lib.IntN.{pos};
 ghost use Rattle.types.specs.Replies.{numberOf, valuesOf};
 ghost use Rattle.types.specs.Answers.{replyOfOutcome, replyOfNumber, replyOfFlag, replyOfAmount};
+ghost use Rattle.quotient.specs.Over.{replyOfRatio};
 ghost use Rattle.questions.specs.Asked.{replyOf};
-ghost use Rattle.numbered.specs.Numbers.{whole, told, tell, nothing, oneNumber, yesOrNo, oneAmount, valuesIn};
+ghost use Rattle.numbered.specs.Numbers.{whole, told, tell, nothing, oneNumber, yesOrNo, oneAmount, oneRatio, valuesIn};
 use crate::Told;
 use crate::Whole;
 use amount::Amount;
 use questions::Answer;
+use quotient::Ratio;
 use types::AmountAnswer;
 use types::FlagAnswer;
 use types::NumberAnswer;
@@ -134,6 +136,16 @@ impl Told {
         match answer {
             AmountAnswer::Is(x) => Told::pair(0, Whole::of_amount(x), Whole::of(0)),
             AmountAnswer::Refused(why) => Told::of_refusal(why),
+        }
+    }
+
+    // The numerator, then the denominator.
+    pub fn of_ratio(answer: Ratio) -> Told
+        ensures { λ r. ⌜ r ≡ tell oneRatio (replyOfRatio answer) ⌝ }
+    {
+        match answer {
+            Ratio::Is(x) => Told::pair(0, Whole::of_amount(x.numerator), Whole::of(x.denominator)),
+            Ratio::Refused(why) => Told::of_refusal(why),
         }
     }
 

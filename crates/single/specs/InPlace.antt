@@ -6,6 +6,7 @@ use denote.Ref.{now}
 use Rattle.types.specs.Answers.{replyOfOutcome}
 use Rattle.types.proofs.Once.{one-number, one-outcome}
 use Rattle.quotient.proofs.Once.{one-ratio}
+use Rattle.orderbook.specs.declared.OrderBook.{OrderBook}
 use Rattle.orderbook.specs.declared.Counts.{Counts}
 use Rattle.orderbook.specs.declared.RowsApplied.{RowsApplied}
 use Rattle.orderbook.specs.Apply.{Change}
@@ -14,7 +15,7 @@ use Rattle.orderbook.proofs.inplace as I
 use Rattle.single.specs.One.{One, OneWith}
 
 -- the four rows
-abbrev Rows : Type 0
+abbrev pub Rows : Type 0
 Rows = List ℕ × List ℕ × List ℕ × List ℕ
 
 -- what the rows and the counts make, and the outcome's reply
@@ -22,20 +23,20 @@ abbrev made : Rows → RowsApplied → Change
 made w r = record { book = bookAt (w .0) (w .1) (w .2) (w .3) (r .counts); reply = replyOfOutcome (r .outcome) }
 
 -- the rows of a book
-abbrev rowsIn : Change → Rows
-rowsIn c = (c .book .bids .prices, c .book .bids .quantities, c .book .asks .prices, c .book .asks .quantities)
+abbrev pub rowsIn : OrderBook → Rows
+rowsIn b = (b .bids .prices, b .bids .quantities, b .asks .prices, b .asks .quantities)
 
 -- the counts of a book
-abbrev countsIn : Change → Counts
-countsIn c = record { bids = c .book .bids .count; asks = c .book .asks .count; sequence = c .book .sequence }
+abbrev pub countsIn : OrderBook → Counts
+countsIn b = record { bids = b .bids .count; asks = b .asks .count; sequence = b .sequence }
 
 -- one answer, and one content of the rows
 one-made : (d : Change) (v w : Rows) (x y : RowsApplied) → made v x ≡ d → made w y ≡ d → (x ≡ y) × (v ≡ w)
 one-made d v w x y p q =
     let e : made v x ≡ made w y = p ∙ sym q in
     let o : x .outcome ≡ y .outcome = one-outcome (d .reply) (x .outcome) (y .outcome) (ap (λ (c : Change). c .reply) p) (ap (λ (c : Change). c .reply) q) in
-    let n : x .counts ≡ y .counts = ap countsIn e in
-    (λ i. record { counts = n i; outcome = o i }, ap rowsIn e)
+    let n : x .counts ≡ y .counts = ap (λ (c : Change). countsIn (c .book)) e in
+    (λ i. record { counts = n i; outcome = o i }, ap (λ (c : Change). rowsIn (c .book)) e)
 
 -- a delta: the answer and the four rows
 module _ where

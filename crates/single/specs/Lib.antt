@@ -10,3 +10,5 @@ pub mod Lines
 pub mod Receivers
 pub mod Shown
 pub mod InPlace
+pub mod Numbered
+pub mod Exported
