@@ -27,6 +27,7 @@ else
 fi
 mkdir -p "$WORK/book"
 put bench/book/Cargo.toml "$WORK/book/Cargo.toml"
+rm -f "$WORK/book/Cargo.lock"
 (cd "$WORK/book" && run_cargo build --release $OFFLINE --quiet)
 program=$WORK/book/target/$TARGET/release/book
 

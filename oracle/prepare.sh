@@ -52,6 +52,7 @@ prepare() {
   sed 's/name = "original"/name = "original_checked"/' $stand_ins/Cargo.toml >"$WORK/original_checked/Cargo.toml"
   printf '\n[lib]\npath = "../original/src/lib.rs"\n' >>"$WORK/original_checked/Cargo.toml"
   put oracle/Cargo.toml "$WORK/Cargo.toml"
+  rm -f "$WORK/Cargo.lock" # another cargo may have written it in a form that this one cannot read; versions are pinned in Cargo.toml
   use_debian_sources
 }
 
