@@ -268,6 +268,35 @@ fn singles() -> Vec<Case> {
     ]
 }
 
+/// Opening cash outside its limit, a record that is no ledger, and the sign of nothing.
+fn records() -> Vec<Case> {
+    let past = MAX_MONEY + 1;
+    let (mut none, _, _, _) = after(0, &[]);
+    none.positions[3].average = 1;
+    let (ours, _, theirs, _) = after(0, &[sold(0, 1, 0)]);
+    let nothing = theirs.position(&money::symbol_of(3)).expect("a position").quantity;
+    vec![
+        Case {
+            name: "a ledger opened with cash 4*10^18 + 1",
+            ours: told(OurLedger::new(past).map(|_| ())).to_string(),
+            theirs: format!("cash {}", PositionLedger::new(Decimal::from(past)).cash()),
+            expected: ("2", "cash 4000000000000000001"),
+        },
+        Case {
+            name: "deposit to a record with average 1 at quantity 0",
+            ours: changes::deposit(&mut none, 1).to_string(),
+            theirs: "(no such value can be made)".to_string(),
+            expected: ("1", "(no such value can be made)"),
+        },
+        Case {
+            name: "the quantity that an Ask of nothing leaves, as it is printed",
+            ours: ours.positions[3].quantity.to_string(),
+            theirs: nothing.to_string(),
+            expected: ("0", "-0"),
+        },
+    ]
+}
+
 pub fn cases() -> Vec<Case> {
-    [averages(), turnovers(), cash(), limits(), totals(), deposits(), worths(), singles()].into_iter().flatten().collect()
+    [averages(), turnovers(), cash(), limits(), totals(), deposits(), worths(), singles(), records()].into_iter().flatten().collect()
 }
