@@ -1,5 +1,6 @@
 #!/usr/bin/env python3
 """Says which public calls have no theorem in crate single: each `pub fn` of a library that is no inner crate, by its path in `.. .Reads.Learnt`.
+Of a call that is lent memory to write in, the theorem must be OneWith or OnePart.
 
 The text alone is read; `rt check single` proves what stands there. The exceptions are those that docs/PROMISES.md lists.
 """
@@ -10,6 +11,8 @@ from pathlib import Path
 ROOT = Path(__file__).resolve().parent.parent
 EXCEPTIONS = {
     "lent::apply_delta": "specs/Lent writes its promise out",
+    "rows::row_of": "inner: hands a row on",
+    "rows::apply_to_book": "inner: asks that the rows are known to make a book",
     "feeding::take": "docs/PROMISES.md, Exceptions",
 }
 
@@ -23,36 +26,49 @@ def crates():
 
 
 def calls(source):
-    """The public functions of a crate, with the module or type in front."""
+    """The public functions of a crate: the module or type in front, the name, and whether memory is lent to be written."""
     for path in sorted(source.glob("*.rt")):
         module = "" if path.stem == "lib" else path.stem
-        for text in path.read_text().split("\n"):
+        lines = path.read_text().split("\n")
+        for at, text in enumerate(lines):
             if re.match(r"impl ", text):
                 module = re.match(r"impl (\w+)", text).group(1)
             elif re.match(r"}", text) and module[:1].isupper():
                 module = "" if path.stem == "lib" else path.stem
             found = re.match(r"\s*pub (?:extern \"C\" )?fn (\w+)", text)
             if found:
-                yield module, found.group(1)
+                head = "\n".join(lines[at:at + 20]).split("ensures")[0]
+                yield module, found.group(1), "&mut" in head or "&'a mut" in head
 
 
-def main():
-    said = {crate: set() for crate, _ in crates()}
+def theorems():
+    """Of each call that crate single speaks of, the kind of its theorem."""
+    said = {}
     for path in (ROOT / "crates/single/specs").glob("*.antt"):
         text = path.read_text()
         names = {name: where for where, name in re.findall(r"^use Rattle·(\S+?) as (\w+)$", text, re.M)}
-        for name, call in re.findall(r"^  pub .* (\w+)\.((?:\w+\.)*)Reads\.Learnt", text, re.M):
+        for kind, name, call in re.findall(r"^  pub \S+ : (One\w*) (\w+)\.((?:\w+\.)*)Reads\.Learnt", text, re.M):
             crate, _, rest = names[name].partition(".proofs")
-            said.setdefault(crate, set()).add(f"{rest}.{call}".strip("."))
-    missing, count = [], 0
+            said[crate, f"{rest}.{call}".strip(".")] = kind
+    return said
+
+
+def main():
+    said = theorems()
+    faults, count = [], 0
     for crate, source in crates():
-        for module, call in calls(source):
+        for module, call, lent in calls(source):
             count += 1
             whole = f"{module}.{call}".strip(".")
-            if whole not in said[crate] and f"{module or crate}::{call}" not in EXCEPTIONS:
-                missing.append(f"{crate}: {whole}")
-    print(f"{count} public calls, {len(missing)} without a theorem in crate single, the {len(EXCEPTIONS)} exceptions aside")
-    sys.exit("\n".join(missing) if missing else 0)
+            if f"{module or crate}::{call}" in EXCEPTIONS:
+                continue
+            kind = said.get((crate, whole))
+            if kind is None:
+                faults.append(f"{crate}: {whole} has no theorem in crate single")
+            elif lent and kind == "One":
+                faults.append(f"{crate}: {whole} is lent memory, and its theorem does not speak of it")
+    print(f"{count} public calls, {len(faults)} faults, the {len(EXCEPTIONS)} exceptions aside")
+    sys.exit("\n".join(faults) if faults else 0)
 
 
 main()

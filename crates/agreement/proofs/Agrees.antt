@@ -3,33 +3,28 @@ use Prim.Native.Nat.{ℕ, _+_, _≤_}
 use mathlib.Core.Bool.{true}
 use mathlib.Core.Option.{Option, none, some}
 use mathlib.Core.Path.{_≡_, refl, sym, ap, _∙_}
-use mathlib.Core.List.{List, [], _∷_, _++_, map, map-append}
+use mathlib.Core.List.{List, [], _∷_, _++_, append-nil, map, map-append}
 use native.Mathlib.Omega.{arith}
 use borrow.Author.Tests.{le-leb, le-ltb, ltb-false}
 use lib.Dec.{ltb}
-use Rattle.levels.proofs.Flags.{by}
+use Rattle.types.proofs.Booleans.{by}
 use Rattle.orderbook.specs.declared.OrderBook.{OrderBook}
-use Rattle.orderbook.specs.declared.BookDelta.{BookDelta}
+use Rattle.deltas.specs.declared.BookDelta.{BookDelta}
 use Rattle.orderbook.specs.Apply.{Change, applied}
-use Rattle.lines.specs.Frames.{Snapshot, Frame, delta, snapshot, bookOf, encode}
-use Rattle.lines.specs.Decode.{decode}
-use Rattle.lines.proofs.Reading.{reads}
+use Rattle.frames.specs.Frames.{Snapshot, Frame, delta, snapshot, bookOf, encode}
+use Rattle.frames.specs.Decode.{decode}
+use Rattle.frames.proofs.Reading.{reads}
 use Rattle.receiver.specs.declared.State.{State}
 use Rattle.receiver.specs.declared.State.the-variants.{Waiting, Live}
 use Rattle.receiver.specs.declared.Receiver.{Receiver}
-use Rattle.receiver.specs.Turns.{isReceiver, start, held, Turn, snapshotTurn, inOrder, turn, taken, heard}
+use Rattle.receiver.specs.Turns.{isReceiver, start, held, Turn, snapshotTurn, nextTurn, turn, taken, heard}
 use Rattle.receiver.proofs.Turns.{is-taken, old-turn, next-turn}
-use Rattle.receiver.proofs.Kept.{heard-kept, heard-rises}
-use Rattle.agreement.specs.Agreement.{bookAfter, Arrived, Undamaged, LiveAt, Old, AllOld, Shown, NeverFalls, Loaded, KeptUp}
+use Rattle.receiver.proofs.Kept.{heard-kept, heard-rises, heard-more}
+use Rattle.agreement.specs.Agreement.{bookAfter, Arrived, Undamaged, LiveAt, Old, AllOld, Shown, NeverFalls, Loaded, StaysLive, KeptUp}
 use Rattle.agreement.proofs.Senders.{own, empty-book, sends-whole}
 use Rattle.agreement.proofs.Follows.{Follows, arrived-read, read-front, undamaged-lines, snapshot-own, next-own, follows-start}
 
 -- ── lines heard ──
-
-heard-append : (r : Receiver) (ls ms : List (List ℕ)) → heard r (ls ++ ms) ≡ heard (heard r ls) ms
-unfolding heard
-heard-append r [] ms = refl
-heard-append r (l ∷ ls) ms = heard-append (taken r l .receiver) ls ms
 
 heard-one : (r : Receiver) (l : List ℕ) → heard r (l ∷ []) ≡ taken r l .receiver
 unfolding heard
@@ -67,10 +62,14 @@ module _ (r : Receiver) (is : isReceiver r ≡ true) (live : r .state ≡ Live) 
   old-kept (m ∷ ms) ns h =
       ap (λ (x : Receiver). heard x (ms ++ ns)) (ap (λ (t : Turn). t .receiver) (is-taken r m is) ∙ old-turn-kept (decode m) (h .0)) ∙ old-kept ms ns (h .1)
 
+  old-same : (ms : List (List ℕ)) → AllOld (held r) ms → heard r ms ≡ r
+  unfolding heard
+  old-same ms h = ap (heard r) (sym (append-nil ms)) ∙ old-kept ms [] h
+
   -- the next delta that the book takes
-  next-live : (d : BookDelta) (c : Change) → d .sequence ≡ held r + 1 → applied (r .book) d ≡ c → turn r (some (delta d)) .receiver ≡ inOrder r (c .reply) (c .book) .receiver
+  next-live : (d : BookDelta) (c : Change) → d .sequence ≡ held r + 1 → applied (r .book) d ≡ c → turn r (some (delta d)) .receiver ≡ nextTurn r (c .reply) (c .book) .receiver
   unfolding turn
-  next-live d c e a = ap (λ (t : Turn). t .receiver) (next-turn r d live e) ∙ ap (λ (x : Change). inOrder r (x .reply) (x .book) .receiver) a
+  next-live d c e a = ap (λ (t : Turn). t .receiver) (next-turn r d live e) ∙ ap (λ (x : Change). nextTurn r (x .reply) (x .book) .receiver) a
 
 module _ (ds : List BookDelta) where
   fronted : (ls ms : List (List ℕ)) → Arrived ds (ls ++ ms) → Follows ds (heard start ls .book)
@@ -96,11 +95,17 @@ module _ (ds : List BookDelta) where
       let o = snapshot-own ds s t in
       let book : bookOf s ≡ bookAfter ds (s .sequence) = o .0 ∙ ap (bookAfter ds) (sym (o .1)) in
       live-at (s .sequence) (bookOf s) _ book refl
-      (heard-append start ls (encode (snapshot s) ∷ []) ∙ heard-one r (encode (snapshot s))
+      (heard-more start ls (encode (snapshot s) ∷ []) ∙ heard-one r (encode (snapshot s))
       ∙ ap (λ (x : Turn). x .receiver) (line-turn r (snapshot s) (started ls) (reads (snapshot s) (sends-whole ds (snapshot s) t)))
       ∙ loaded-turn r s h (λ k. f .same ∙ ap (bookAfter ds) k ∙ sym book))
 
   -- (d)
+  pub stays-live : StaysLive ds
+  stays-live ls ms a live old =
+      let r = heard start ls in
+      let same : heard start (ls ++ ms) ≡ r = heard-more start ls ms ∙ old-same r (started ls) live ms old in
+      (same, live-at (held r) (r .book) _ (fronted ls ms a .same) refl (same ∙ λ i. record { state = live i; book = r .book }))
+
   pub kept-up : KeptUp ds
   kept-up ls ms d a t live e old =
       let r = heard start ls in
@@ -108,7 +113,7 @@ module _ (ds : List BookDelta) where
       let f = fronted ls (ms ++ l ∷ []) a in
       let g = next-own ds (r .book) f d t e in
       live-at (d .sequence) (bookAfter ds (d .sequence)) _ refl (own ds (d .sequence) (g .1) .number)
-      (heard-append start ls (ms ++ l ∷ []) ∙ old-kept r (started ls) live ms (l ∷ []) old ∙ heard-one r l
+      (heard-more start ls (ms ++ l ∷ []) ∙ old-kept r (started ls) live ms (l ∷ []) old ∙ heard-one r l
       ∙ ap (λ (x : Turn). x .receiver) (line-turn r (delta d) (started ls) (reads (delta d) (sends-whole ds (delta d) t)))
       ∙ next-live r (started ls) live d _ e (g .0))
 

@@ -7,15 +7,15 @@ use native.Mathlib.Omega.{arith}
 use native.Mathlib.Numerals.{add-one}
 use Rattle.types.specs.Replies.{done}
 use Rattle.orderbook.specs.declared.OrderBook.{OrderBook}
-use Rattle.orderbook.specs.declared.BookDelta.{BookDelta}
+use Rattle.deltas.specs.declared.BookDelta.{BookDelta}
 use Rattle.orderbook.specs.Book.{emptyBook}
 use Rattle.orderbook.specs.Apply.{Change, applied}
-use Rattle.lines.specs.Frames.{Snapshot, Frame, delta, snapshot, bookOf, encode}
-use Rattle.lines.specs.Decode.{decode}
-use Rattle.lines.specs.Streams.{lines}
-use Rattle.lines.specs.Channel.{Piece, sent, replaced, cut, joined, frameOf, Pieces, stream, seen}
-use Rattle.lines.proofs.Reading.{only}
-use Rattle.lines.proofs.Channel.{read-stream}
+use Rattle.frames.specs.Frames.{Snapshot, Frame, delta, snapshot, bookOf, encode}
+use Rattle.frames.specs.Decode.{decode}
+use Rattle.streams.specs.Streams.{lines}
+use Rattle.streams.specs.Channel.{Piece, sent, replaced, cut, joined, frameOf, Pieces, stream, seen}
+use Rattle.frames.proofs.Reading.{only}
+use Rattle.streams.proofs.Channel.{read-stream}
 use Rattle.receiver.specs.declared.Receiver.{Receiver}
 use Rattle.receiver.specs.Turns.{start, taken, heard}
 use Rattle.receiver.proofs.Kept.{by-line}

@@ -19,16 +19,17 @@ use Rattle.levels.specs.Formed.{every, wellFormed}
 use Rattle.levels.proofs.Tables.{levels-back}
 use Rattle.sides.specs.Best.{bestOf, isApart}
 use Rattle.orderbook.specs.declared.OrderBook.{OrderBook}
-use Rattle.orderbook.specs.declared.BookDelta.{BookDelta}
-use Rattle.orderbook.specs.declared.DeltaAction.{DeltaAction}
-use Rattle.orderbook.specs.declared.DeltaAction.the-variants.{Set, Remove}
+use Rattle.deltas.specs.declared.BookDelta.{BookDelta}
+use Rattle.deltas.specs.declared.DeltaAction.{DeltaAction}
+use Rattle.deltas.specs.declared.DeltaAction.the-variants.{Set, Remove}
 use Rattle.orderbook.specs.Book.{sidesFit, isBook, emptyBook}
-use Rattle.orderbook.specs.Apply.{Change, kept, deltaFits, placed, taken, applied}
+use Rattle.deltas.specs.Delta.{deltaFits}
+use Rattle.orderbook.specs.Apply.{Change, kept, placed, tried, applied}
 use Rattle.orderbook.proofs.Kept.{delta-keeps, remove-any}
-use Rattle.lines.specs.Frames.{Frame, delta, snapshot, bookOf, snapshotOf, isWhole, IsWhole}
-use Rattle.lines.specs.Writes.{sentQuantity, asSent}
-use Rattle.lines.proofs.Sent.{sent-whole}
-use Rattle.agreement.specs.Agreement.{Entry, entered, history, after, deltaAt, count, bookAfter, Sends}
+use Rattle.frames.specs.Frames.{Frame, delta, snapshot, bookOf, snapshotOf, isWhole, IsWhole}
+use Rattle.frames.specs.Sent.{sentQuantity, asSent}
+use Rattle.frames.proofs.Sent.{sent-whole}
+use Rattle.agreement.specs.Agreement.{Entry, entered, history, bookPast, deltaAt, count, bookAfter, Sends}
 
 -- ── a delta that a book accepts ──
 
@@ -59,7 +60,7 @@ module _ (b : OrderBook) (d : BookDelta) where
       (λ _. if-refused 5 _)
 
   pub accepted : If (applied b d)
-  unfolding applied taken
+  unfolding applied tried
   accepted =
       if-either (isBook b) _ _
       (λ _.
@@ -95,7 +96,7 @@ sent-twice d = let e = go (d .action) (d .quantity) in λ i. record { side = d .
 -- the delta sent at place n takes its book from one to the next
 pub record Goes (b : OrderBook) (es : List Entry) (n : ℕ) (d : BookDelta) : Type 0 where
   pub as-sent : asSent d ≡ d
-  pub goes : applied (after b es n) d ≡ record { book = after b es (suc n); reply = done tt }
+  pub goes : applied (bookPast b es n) d ≡ record { book = bookPast b es (suc n); reply = done tt }
 
 pub all-go : (ds : List BookDelta) (b : OrderBook) (n : ℕ) (d : BookDelta) → deltaAt (history b ds) n ≡ some d → Goes b (history b ds) n d
 unfolding history

@@ -7,14 +7,14 @@ use mathlib.Core.List.{List, [], _∷_, _++_, map}
 use lib.ListN.{length}
 use Rattle.types.specs.Replies.{Reply, done, refused}
 use Rattle.orderbook.specs.declared.OrderBook.{OrderBook}
-use Rattle.orderbook.specs.declared.BookDelta.{BookDelta}
+use Rattle.deltas.specs.declared.BookDelta.{BookDelta}
 use Rattle.orderbook.specs.Book.{emptyBook}
 use Rattle.orderbook.specs.Apply.{applied}
-use Rattle.lines.specs.Frames.{Snapshot, Frame, delta, snapshot, snapshotOf, encode}
-use Rattle.lines.specs.Decode.{decode}
-use Rattle.lines.specs.Writes.{asSent}
-use Rattle.lines.specs.Streams.{lines}
-use Rattle.lines.specs.Channel.{Piece, frameOf, IsDamage, stream}
+use Rattle.frames.specs.Frames.{Snapshot, Frame, delta, snapshot, snapshotOf, encode}
+use Rattle.frames.specs.Decode.{decode}
+use Rattle.frames.specs.Sent.{asSent}
+use Rattle.streams.specs.Streams.{lines}
+use Rattle.streams.specs.Channel.{Piece, frameOf, IsDamage, stream}
 use Rattle.receiver.specs.declared.State.the-variants.{Live}
 use Rattle.receiver.specs.declared.Receiver.{Receiver}
 use Rattle.receiver.specs.Turns.{start, held, heard}
@@ -37,10 +37,10 @@ history b [] = []
 history b (d ∷ ds) = entered (applied b d .reply) d (applied b d .book) (history (applied b d .book) ds)
 
 -- the book after n of the deltas accepted
-abbrev pub after : OrderBook → List Entry → ℕ → OrderBook
-after b es zero = b
-after b [] (suc n) = b
-after b (e ∷ es) (suc n) = after (e .book) es n
+abbrev pub bookPast : OrderBook → List Entry → ℕ → OrderBook
+bookPast b es zero = b
+bookPast b [] (suc n) = b
+bookPast b (e ∷ es) (suc n) = bookPast (e .book) es n
 
 -- the delta sent at a place, from 0 on
 abbrev pub deltaAt : List Entry → ℕ → Option BookDelta
@@ -67,7 +67,7 @@ module _ (ds : List BookDelta) where
 
   -- its book after delta n, the empty one for 0
   abbrev pub bookAfter : ℕ → OrderBook
-  bookAfter n = after emptyBook (history emptyBook ds) n
+  bookAfter n = bookPast emptyBook (history emptyBook ds) n
 
   -- a frame that it sends at some time: a delta that it accepted, or a snapshot of its book after any number of them
   abbrev pub Sends : Frame → Type 0
@@ -121,7 +121,14 @@ module _ (ds : List BookDelta) where
       (ls : List (List ℕ)) (s : Snapshot) → Arrived ds (ls ++ encode (snapshot s) ∷ []) → Sends ds (snapshot s) → held (heard start ls) ≤ s .sequence →
       LiveAt ds (heard start (ls ++ encode (snapshot s) ∷ [])) (s .sequence)
 
-  -- (d) A live receiver, then only older or damaged lines, then the sender's next delta arriving whole: it is live at that delta's number.
+  -- (d) A live receiver, then only older or damaged lines: it is the same receiver, live at the same number with the same book. The first of
+  -- such lines are such lines too, so it is so after each of them.
+  abbrev pub StaysLive : Type 0
+  StaysLive =
+      (ls ms : List (List ℕ)) → Arrived ds (ls ++ ms) → heard start ls .state ≡ Live → AllOld (held (heard start ls)) ms →
+      (heard start (ls ++ ms) ≡ heard start ls) × LiveAt ds (heard start (ls ++ ms)) (held (heard start ls))
+
+  -- And then the sender's next delta arriving whole: it is live at that delta's number.
   abbrev pub KeptUp : Type 0
   KeptUp =
       (ls ms : List (List ℕ)) (d : BookDelta) → Arrived ds (ls ++ (ms ++ encode (delta d) ∷ [])) → Sends ds (delta d) → heard start ls .state ≡ Live →

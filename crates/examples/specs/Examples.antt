@@ -1,5 +1,5 @@
 -- The paper's worked examples, those marked P, as one statement over one list of inputs and answers, book and ledger together. What answers is
--- only what the calls are proved to give: `bookAsk` (questions::ask), `applied` (apply_delta), `opened` (PositionLedger::new), `booked` (apply_fill).
+-- only what the calls are proved to give: `bookAsk` (questions::ask), `applied` (apply_delta), `created` (PositionLedger::new), `booked` (apply_fill).
 use Prim.Native.Nat.{ℕ}
 use mathlib.Core.Path.{_≡_, refl}
 use mathlib.Core.List.{List, [], _∷_, map}
@@ -11,24 +11,29 @@ use Rattle.types.specs.declared.Side.{Side}
 use Rattle.types.specs.declared.Side.the-variants.{Bid, Ask}
 use Rattle.types.specs.declared.PriceLevel.{PriceLevel}
 use Rattle.quotient.specs.Over.{over, overOrNone}
+use Rattle.quotient.specs.Examples as Q
 use Rattle.levels.specs.Order.{leads, inOrder}
 use Rattle.levels.specs.Formed.{every, wellFormed}
-use Rattle.levels.specs.Walk.{sumOf, costOf, reachFrom}
+use Rattle.walks.specs.Walk.{sumOf, costOf, reachFrom}
 use Rattle.levels.specs.Change.{setLevel, removeLevel}
 use Rattle.sides.specs.Best.{bestOf, isApart}
 use Rattle.sides.specs.Questions.{ofBoth, vwapOf, impactOf, volumePriceOf}
-use Rattle.orderbook.specs.declared.BookDelta.{BookDelta}
-use Rattle.orderbook.specs.declared.DeltaAction.{DeltaAction}
-use Rattle.orderbook.specs.declared.DeltaAction.the-variants.{Set, Remove}
+use Rattle.deltas.specs.declared.BookDelta.{BookDelta}
+use Rattle.deltas.specs.declared.DeltaAction.{DeltaAction}
+use Rattle.deltas.specs.declared.DeltaAction.the-variants.{Set, Remove}
 use Rattle.orderbook.specs.Book.{bidsOf, asksOf, sidesFit}
 use Rattle.orderbook.specs.Apply as B
-use Rattle.orderbook.specs.Questions.{weightedMid, imbalance, vwapForQty, priceImpact, priceAtVolume}
 use Rattle.orderbook.specs.Examples.{bookK}
 use Rattle.questions.specs.declared.Question.{Question}
-use Rattle.questions.specs.declared.Question.the-variants.{VwapForQty, PriceImpact, PriceAtVolume, Imbalance, WeightedMid}
+use Rattle.sides.specs.declared.asked.SideNumber.the-variants.{PriceAtVolume}
+use Rattle.sides.specs.declared.asked.TopRatio.the-variants.{WeightedMid}
+use Rattle.sides.specs.declared.asked.VolumeRatio.the-variants.{Imbalance}
+use Rattle.sides.specs.declared.asked.Trade.the-variants.{VwapForQty, PriceImpact}
+use Rattle.questions.specs.declared.Question.the-variants.{OfSide, OfTops, OfVolumes, Traded}
+use Rattle.questions.specs.Questions.{weightedMid, imbalance, vwapForQty, priceImpact, priceAtVolume}
 use Rattle.questions.specs.Asked.{Value, number, ratio, bookAsk}
-use Rattle.position.specs.declared.Fill.{Fill}
-use Rattle.position.specs.Holding.{isPosition, isFill, averageAfter, after}
+use Rattle.holding.specs.declared.Fill.{Fill}
+use Rattle.holding.specs.Holding.{isPosition, isFill, averageAfter, positionAfter}
 use Rattle.position.specs.Ledger as L
 
 -- what is put: a question to book K, a delta to book K, or fills of symbol 0, one after the other, to a ledger opened with this cash
@@ -51,7 +56,7 @@ ofBook c = left (c .reply) (bidsOf (c .book)) (asksOf (c .book)) (c .book .seque
 -- what a change of a ledger shows
 abbrev pub ofLedger : L.Change → Output
 ofLedger c =
-    let p = L.at (c .ledger) 0 in
+    let p = L.positionAt (c .ledger) 0 in
     settled (c .reply) (c .ledger .cash .value) (p .quantity .value) (p .average) (p .realized .value)
 
 -- a ledger's change, and then fills
@@ -63,7 +68,7 @@ thenFills c (f ∷ fs) = thenFills (L.booked (c .ledger) f) fs
 unfoldable pub answered : Input → Output
 answered (asked q) = replied (bookAsk (bookK 5) q)
 answered (offered d) = ofBook (B.applied (bookK 5) d)
-answered (traded cash fs) = ofLedger (thenFills (L.opened cash) fs)
+answered (traded cash fs) = ofLedger (thenFills (L.created cash) fs)
 
 -- ── the examples, in the paper's words ──
 
@@ -79,9 +84,9 @@ buy n price commission = record { symbol = 0; side = Bid; quantity = n; price = 
 abbrev sell : ℕ → ℕ → ℕ → Fill
 sell n price commission = record { symbol = 0; side = Ask; quantity = n; price = price; commission = amount (pos commission) }
 
--- a numerator over a denominator
+-- this numerator over this denominator, in plain numbers
 abbrev quotient : ℕ → ℕ → Output
-quotient n d = replied (done (ratio (over (pos n) d)))
+quotient n d = replied (done (ratio (Q.quotient n d)))
 
 -- a price
 abbrev price : ℕ → Output
@@ -113,26 +118,26 @@ x gives y = record { input = x; output = y }
 unfoldable pub examples : List Example
 examples =
     -- vwap_for_qty Bid 7: 696 over 7, as is price_impact Ask 7. Ask 7: 713 over 7, as is price_impact Bid 7.
-    (asked (VwapForQty Bid 7) gives quotient 696 7)
-    ∷ (asked (PriceImpact Ask 7) gives quotient 696 7)
-    ∷ (asked (VwapForQty Ask 7) gives quotient 713 7)
-    ∷ (asked (PriceImpact Bid 7) gives quotient 713 7)
+    (asked (Traded Bid (VwapForQty 7)) gives quotient 696 7)
+    ∷ (asked (Traded Ask (PriceImpact 7)) gives quotient 696 7)
+    ∷ (asked (Traded Ask (VwapForQty 7)) gives quotient 713 7)
+    ∷ (asked (Traded Bid (PriceImpact 7)) gives quotient 713 7)
     -- Bid 15: 1480 over 15; Bid 16: 7; price_impact Ask 16: 10.
-    ∷ (asked (VwapForQty Bid 15) gives quotient 1480 15)
-    ∷ (asked (VwapForQty Bid 16) gives refusal 7 (pos 16 ∷ []))
-    ∷ (asked (PriceImpact Ask 16) gives refusal 10 [])
+    ∷ (asked (Traded Bid (VwapForQty 15)) gives quotient 1480 15)
+    ∷ (asked (Traded Bid (VwapForQty 16)) gives refusal 7 (pos 16 ∷ []))
+    ∷ (asked (Traded Ask (PriceImpact 16)) gives refusal 10 [])
     -- Set bid 101×0, sequence 6: 5 with 101, 101. Sequence 5: 4 with 6, 5.
     ∷ (offered (delta Set Bid 101 0 6) gives levelsSame (refused 5 (pos 101 ∷ pos 101 ∷ [])) 5)
     ∷ (offered (delta Set Bid 101 0 5) gives levelsSame (refused 4 (pos 6 ∷ pos 5 ∷ [])) 5)
     -- Remove ask 102, sequence 6: levels same, sequence 6.
     ∷ (offered (delta Remove Ask 102 0 6) gives levelsSame (done tt) 6)
     -- price_at_volume Bid 5: 100; 6: 98; 99: 98.
-    ∷ (asked (PriceAtVolume Bid 5) gives price 100)
-    ∷ (asked (PriceAtVolume Bid 6) gives price 98)
-    ∷ (asked (PriceAtVolume Bid 99) gives price 98)
+    ∷ (asked (OfSide Bid (PriceAtVolume 5)) gives price 100)
+    ∷ (asked (OfSide Bid (PriceAtVolume 6)) gives price 98)
+    ∷ (asked (OfSide Bid (PriceAtVolume 99)) gives price 98)
     -- imbalance 5 over 25; weighted_mid 905 over 9.
-    ∷ (asked Imbalance gives quotient 5 25)
-    ∷ (asked WeightedMid gives quotient 905 9)
+    ∷ (asked (OfVolumes Imbalance) gives quotient 5 25)
+    ∷ (asked (OfTops WeightedMid) gives quotient 905 9)
     -- Cash 10000: buy 3 at 100, commission 2; buy 2 at 101; sell 4 at 110, commission 1; sell 3 at 90.
     -- Cash 10205, quantity -2, average 90, realized 27.
     ∷ (traded (pos 10000) (buy 3 100 2 ∷ buy 2 101 0 ∷ sell 4 110 1 ∷ sell 3 90 0 ∷ []) gives settled (done tt) (pos 10205) (minus 2) 90 (pos 27))
@@ -144,7 +149,7 @@ examples =
 -- every one of them has its answer
 pub all-answered : map (λ (e : Example). answered (e .input)) examples ≡ map (λ (e : Example). e .output) examples
 unfolding examples answered thenFills
-    bookAsk vwapForQty priceImpact priceAtVolume weightedMid imbalance vwapOf impactOf volumePriceOf ofBoth overOrNone sumOf costOf reachFrom
-    B.applied B.taken setLevel removeLevel sidesFit wellFormed inOrder leads every bestOf isApart
-    L.opened L.booked L.settled L.filled L.isLedger isFill isPosition after averageAfter allTo
+    bookAsk vwapForQty priceImpact priceAtVolume weightedMid imbalance vwapOf impactOf volumePriceOf ofBoth over overOrNone sumOf costOf reachFrom
+    B.applied B.tried setLevel removeLevel sidesFit wellFormed inOrder leads every bestOf isApart
+    L.created L.booked L.settled L.filled L.isLedger isFill isPosition positionAfter averageAfter allTo
 all-answered = refl

@@ -1,41 +1,36 @@
--- What a line is told as, read off the frame and the book that the reader gives back.
+-- What a line is told as, read off the answer and the book that the reader gives back.
+use mathlib.Core.Path.{_≡_, refl, ap, _∙_}
+use mathlib.Core.List.{List, [], _∷_}
 use Prim.Native.Nat.{ℕ}
-use mathlib.Core.Option.{Option, none, some}
-use mathlib.Core.Path.{_≡_, refl, ap, sym, _∙_}
+use types.Run.{OneOf, miss}
+use denote.Enum.Declared.{tagOf}
+use Rattle.types.specs.Replies.{Reply}
+use Rattle.told.specs.declared.Told.{Told}
+use Rattle.told.specs.Numbers.{tell}
+use Rattle.deltas.specs.declared.BookDelta.{BookDelta}
 use Rattle.orderbook.specs.declared.OrderBook.{OrderBook}
-use Rattle.lines.specs.declared.Frame.{Frame}
-use Rattle.lines.specs.declared.Frame.the-variants as F
+use Rattle.lines.specs.declared.FrameAnswer.{FrameAnswer}
+use Rattle.lines.specs.declared.FrameAnswer.the-variants as F
+use Rattle.lines.proofs.FrameAnswer as FT
 use Rattle.lines.specs.declared.ReadFrame.{ReadFrame}
-use Rattle.lines.specs.Frames as frames
-use Rattle.lines.specs.Decode.{readAs}
-use Rattle.exports.specs.declared.LineTold.{LineTold}
-use Rattle.exports.specs.Feeds.{kindOf, bareLine, deltaTold, lineTold}
+use Rattle.lines.specs.Read.{replyOfFrame, readOf}
+use Rattle.exports.specs.Feeds.{kindOf, bareLine, deltaTold, lineBy, lineTold}
 
--- the kind of a frame that was read
-abbrev pub frameKind : Frame → ℕ
-frameKind F.Damaged = 0
-frameKind (F.Delta d) = 1
-frameKind F.Snapshot = 2
+module _ (r : ReadFrame) (t : Told) (k : t ≡ tell kindOf (replyOfFrame (r .answer) (r .book))) where
+  -- a delta
+  pub told-delta : (d : BookDelta) → r .answer ≡ F.Delta d → deltaTold t d (r .book) ≡ lineTold (readOf r)
+  told-delta d e = rw (k, e)
 
--- a frame that was read, with the book beside it
-abbrev pub frameTold : Frame → OrderBook → LineTold
-frameTold F.Damaged b = bareLine 0 b
-frameTold (F.Delta d) b = deltaTold d b
-frameTold F.Snapshot b = bareLine 2 b
+-- the tags of what is no delta
+abbrev others : List ℕ
+others = 1 ∷ 2 ∷ []
 
-read-kind : (o : Option frames.Frame) → frameKind (readAs o .frame) ≡ kindOf o
-read-kind none = refl
-read-kind (some (frames.delta d)) = refl
-read-kind (some (frames.snapshot s)) = refl
+bare : (t : Told) (a : FrameAnswer) (b : OrderBook) → OneOf others (tagOf FT.the-type a) → bareLine t b ≡ lineBy t (replyOfFrame a b) b
+bare t (F.Delta d) b h = absurd (miss others 0 tt h)
+bare t F.Snapshot b h = refl
+bare t (F.Refused why) b h = refl
 
-read-told : (o : Option frames.Frame) → frameTold (readAs o .frame) (readAs o .book) ≡ lineTold o
-read-told none = refl
-read-told (some (frames.delta d)) = refl
-read-told (some (frames.snapshot s)) = refl
-
-module _ (o : Option frames.Frame) (r : ReadFrame) (f : Frame) (e : r ≡ readAs o) (g : r .frame ≡ f) where
-  pub told-kind : frameKind f ≡ kindOf o
-  told-kind = sym (ap frameKind g) ∙ ap (λ (x : ReadFrame). frameKind (x .frame)) e ∙ read-kind o
-
-  pub told-line : frameTold f (r .book) ≡ lineTold o
-  told-line = sym (ap (λ (x : Frame). frameTold x (r .book)) g) ∙ ap (λ (x : ReadFrame). frameTold (x .frame) (x .book)) e ∙ read-told o
+module _ (r : ReadFrame) (t : Told) (k : t ≡ tell kindOf (replyOfFrame (r .answer) (r .book))) where
+  -- anything else
+  pub told-bare : OneOf others (tagOf FT.the-type (r .answer)) → bareLine t (r .book) ≡ lineTold (readOf r)
+  told-bare h = bare t (r .answer) (r .book) h ∙ ap (λ (x : Told). lineBy x (replyOfFrame (r .answer) (r .book)) (r .book)) k

@@ -1,4 +1,2 @@
+pub mod Named
 pub mod Frames
-pub mod Refusals
-pub mod Ranges
-pub mod Writers

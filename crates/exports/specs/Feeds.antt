@@ -1,56 +1,57 @@
--- The lines of the feed for Rust and C: what a line reads as, in numbers, and what the writers of lines leave.
+-- The lines of the feed for Rust and C: what a line reads as, in numbers, and the line of a delta of numbers.
 use Prim.Native.Nat.{ℕ}
-use mathlib.Core.Bool.{cond}
-use mathlib.Core.Path.{_≡_}
-use mathlib.Core.Option.{Option, none, some}
-use mathlib.Core.List.{List, []}
-use lib.ListN.{length}
-use Rattle.types.specs.Replies.{Reply, refused, mapReply}
+use mathlib.Core.List.{List, [], _∷_}
+use lib.IntN.{ℤ, pos}
+use Rattle.types.specs.Replies.{Reply, done, refused}
+use Rattle.types.specs.Named.{sideNumber}
+use Rattle.told.specs.declared.Told.{Told}
+use Rattle.told.specs.Numbers.{tell}
+use Rattle.deltas.specs.declared.BookDelta.{BookDelta}
+use Rattle.deltas.specs.Delta.{actionNumber}
 use Rattle.orderbook.specs.declared.OrderBook.{OrderBook}
-use Rattle.orderbook.specs.declared.BookDelta.{BookDelta}
-use Rattle.orderbook.specs.Book.{emptyBook}
-use Rattle.lines.specs.Frames.{Frame, delta, snapshot, bookOf, sideByte, actionByte}
-use Rattle.lines.specs.Writes.{deltaLine, fitted, overwritten}
-use Rattle.numbered.specs.declared.Told.{Told}
-use Rattle.numbered.specs.Numbers.{tell, oneNumber}
-use Rattle.exports.specs.Books.{areNamed, deltaOf}
+use Rattle.frames.specs.Frames.{Frame, delta, snapshot}
+use Rattle.frames.specs.Sent.{deltaLine}
+use Rattle.lines.specs.Read.{Read}
 use Rattle.exports.specs.declared.LineTold.{LineTold}
+use Rattle.exports.specs.Names.{deltaBy}
 
--- 0 for damage, 1 for a delta, 2 for a snapshot
-abbrev pub kindOf : Option Frame → ℕ
-kindOf none = 0
-kindOf (some (delta d)) = 1
-kindOf (some (snapshot s)) = 2
+-- the kind of a frame: 1 for a delta, 2 for a snapshot
+abbrev pub kindOf : Frame → List ℤ
+kindOf (delta d) = pos 1 ∷ []
+kindOf (snapshot s) = pos 2 ∷ []
 
--- a kind and a book, without the numbers of a delta
-abbrev pub bareLine : ℕ → OrderBook → LineTold
-bareLine kind b = record { kind = kind; side = 0; action = 0; price = 0; quantity = 0; sequence = 0; book = b }
+-- a line without the numbers of a delta
+abbrev pub bareLine : Told → OrderBook → LineTold
+bareLine t b = record { told = t; side = 0; action = 0; price = 0; quantity = 0; sequence = 0; book = b }
 
 -- a delta's numbers, as its line has them, and a book
-abbrev pub deltaTold : BookDelta → OrderBook → LineTold
-deltaTold d b =
+abbrev pub deltaTold : Told → BookDelta → OrderBook → LineTold
+deltaTold t d b =
     record {
-      kind = 1;
-      side = sideByte (d .side);
-      action = actionByte (d .action);
+      told = t;
+      side = sideNumber (d .side);
+      action = actionNumber (d .action);
       price = d .price;
       quantity = d .quantity;
       sequence = d .sequence;
       book = b;
     }
 
--- a line: its kind, a delta's numbers, a snapshot's book
-abbrev pub lineTold : Option Frame → LineTold
-lineTold none = bareLine 0 emptyBook
-lineTold (some (delta d)) = deltaTold d emptyBook
-lineTold (some (snapshot s)) = bareLine 2 (bookOf s)
+-- what a line is told as, beside its kind or 12
+abbrev pub lineBy : Told → Reply Frame → OrderBook → LineTold
+lineBy t (done (delta d)) b = deltaTold t d b
+lineBy t (done (snapshot s)) b = bareLine t b
+lineBy t (refused n vs) b = bareLine t b
 
--- the line of a delta of numbers: 2 for a side or an action above 1, or a number outside its limits
+-- a line: its kind or 12, a delta's numbers, a snapshot's book
+abbrev pub lineTold : Read → LineTold
+lineTold r = lineBy (tell kindOf (r .reply)) (r .reply) (r .book)
+
+-- a delta's line, if the numbers name one, else 2
+abbrev pub lineOf : Reply BookDelta → Reply (List ℕ)
+lineOf (done d) = deltaLine d
+lineOf (refused n vs) = refused n vs
+
+-- the line of a delta of numbers
 unfoldable pub deltaLineBy : ℕ → ℕ → ℕ → ℕ → ℕ → Reply (List ℕ)
-deltaLineBy side action price quantity sequence =
-    cond (areNamed side action 1) (deltaLine (deltaOf side action price quantity sequence)) (refused 2 [])
-
--- a line into lent memory: its length or the refusal, and the content of the whole memory
-pub record LineWritten (line : Reply (List ℕ)) (before after : List ℕ) (r : Told) : Type 0 where
-  pub answer : r ≡ tell oneNumber (mapReply length (fitted (length before) line))
-  pub content : after ≡ overwritten (fitted (length before) line) before
+deltaLineBy side action price quantity sequence = lineOf (deltaBy side action price quantity sequence)

@@ -7,13 +7,13 @@ use lib.IntN.{ℤ}
 use lib.ListN.{getD}
 use Rattle.amount.specs.Whole.{amount}
 use Rattle.types.specs.Replies.{Reply, refused, ifRecord}
-use Rattle.position.specs.declared.Fill.{Fill}
+use Rattle.holding.specs.declared.Fill.{Fill}
 use Rattle.position.specs.declared.PositionLedger.{PositionLedger}
 use Rattle.position.specs.Ledger.{Change, isLedger, booked}
-use Rattle.position.specs.Values.{unrealizedTotal, liquidation, netExposure, neutral}
-use Rattle.numbered.specs.declared.Told.{Told}
-use Rattle.numbered.specs.Numbers.{tell, nothing, oneAmount, yesOrNo}
-use Rattle.numbered.specs.Named.{sideNamed}
+use Rattle.valuation.specs.Values.{unrealizedTotal, liquidation, netExposure, neutral}
+use Rattle.told.specs.declared.Told.{Told}
+use Rattle.told.specs.Numbers.{tell, nothing, oneAmount, yesOrNo}
+use Rattle.types.specs.Named.{sideNamed}
 use Rattle.exports.specs.declared.LedgerTold.{LedgerTold}
 
 -- numbers that name nothing: 1 if the record is no ledger, else 2

@@ -1,6 +1,6 @@
+pub mod Names
+pub mod Memory
 pub mod Books
-pub mod Walks
-pub mod Listings
 pub mod Ledgers
 pub mod Feeds
 pub mod Receivers

@@ -4,28 +4,35 @@ use mathlib.Core.Bool.{Bool, cond}
 use mathlib.Core.List.{List, []}
 use lib.Dec.{eqb, leb}
 use Rattle.types.specs.Replies.{Reply, ifRecord}
-use Rattle.types.specs.declared.Side.{Side}
-use Rattle.types.specs.declared.PriceLevel.{PriceLevel}
+use Rattle.told.specs.declared.Told.{Told}
+use Rattle.told.specs.Numbers.{told, tell, nothing}
+use Rattle.deltas.specs.declared.Counts.{Counts}
+use Rattle.listings.specs.declared.Listing.{Listing}
+use Rattle.orderbook.specs.Lent.{Row, lentBook, leftBook}
 use Rattle.questions.specs.Asked.{Value}
 use Rattle.receiver.specs.declared.State.{State}
 use Rattle.receiver.specs.declared.State.the-variants.{Waiting, Live}
 use Rattle.receiver.specs.declared.Receiver.{Receiver}
 use Rattle.receiver.specs.Turns.{Turn, taken}
-use Rattle.receiver_questions.specs.Gate.{gate, receiverAsk}
-use Rattle.numbered.specs.Numbers.{told, tell, nothing}
-use Rattle.numbered.specs.Named.{sideNamed, questionNamed}
+use Rattle.receiver_questions.specs.Gate.{receiverAsk, receiverNumbers}
 use Rattle.exports.specs.declared.Held.{Held}
-use Rattle.exports.specs.declared.HeldTold.{HeldTold}
-use Rattle.exports.specs.Books.{areNamed, unnamed}
-use Rattle.exports.specs.Listings.{listed}
+use Rattle.exports.specs.Names.{questionBy, listingBy, replyTo}
+
+-- a receiver that is lent as its rows, with its state's number and its counts, as it was lent
+abbrev pub lentHeld : Row → Row → Row → Row → ℕ → Counts → Held
+lentHeld bp bq ap aq n c = record { state = n; book = lentBook bp bq ap aq c }
+
+-- and as the call returns
+abbrev pub leftHeld : Row → Row → Row → Row → ℕ → Counts → Held
+leftHeld bp bq ap aq n c = record { state = n; book = leftBook bp bq ap aq c }
 
 -- a state is 0 or 1
 abbrev pub isState : Held → Bool
 isState h = leb (h .state) 1
 
--- 0 waiting, any other number live
-abbrev pub stateNamed : ℕ → State
-stateNamed n = cond (eqb n 0) Waiting Live
+-- live where the flag is set, else waiting
+abbrev pub stateIf : Bool → State
+stateIf live = cond live Live Waiting
 
 -- the number of a state
 abbrev pub stateNumber : State → ℕ
@@ -34,11 +41,16 @@ stateNumber Live = 1
 
 -- the receiver of a record
 abbrev pub receiverOf : Held → Receiver
-receiverOf h = record { state = stateNamed (h .state); book = h .book }
+receiverOf h = record { state = stateIf (eqb (h .state) 1); book = h .book }
 
 -- the record of a receiver
 abbrev pub heldOf : Receiver → Held
 heldOf r = record { state = stateNumber (r .state); book = r .book }
+
+-- a receiver, and an answer in numbers
+pub record HeldTold : Type 0 where
+  pub receiver : Held
+  pub told : Told
 
 -- a receiver after a line, and the reply as numbers
 abbrev pub heldTold : Turn → HeldTold
@@ -51,14 +63,9 @@ takenBy h line = cond (isState h) (heldTold (taken (receiverOf h) line)) (record
 -- a question: 1 if the record is no receiver, 2 if the numbers name nothing, then the receiver's answer
 unfoldable pub heldAsk : Held → ℕ → ℕ → ℕ → ℕ → Reply Value
 heldAsk h question side small large =
-    ifRecord (isState h)
-    (cond (areNamed side question 27) (receiverAsk (receiverOf h) (questionNamed question (sideNamed side) small large)) (unnamed (h .book)))
+    ifRecord (isState h) (replyTo (h .book) (receiverAsk (receiverOf h)) (questionBy question side small large))
 
--- a listing of what a receiver shows: the book's behind the state's gate
-abbrev pub shown : ℕ → Side → ℕ → ℕ → Receiver → Reply (List PriceLevel)
-shown listing side from to r = gate (r .state) (listed listing side from to (r .book))
-
--- by numbers, refused as a question is
-unfoldable pub shownBy : Held → ℕ → ℕ → ℕ → ℕ → Reply (List PriceLevel)
-shownBy h listing side from to =
-    ifRecord (isState h) (cond (areNamed side listing 2) (shown listing (sideNamed side) from to (receiverOf h)) (unnamed (h .book)))
+-- the numbers of a listing, refused as a question is
+unfoldable pub heldNumbers : Held → ℕ → ℕ → ℕ → ℕ → Reply (List ℕ)
+heldNumbers h listing side from to =
+    ifRecord (isState h) (replyTo (h .book) (λ (l : Listing). receiverNumbers l (receiverOf h)) (listingBy listing side from to))

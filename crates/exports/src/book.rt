@@ -1,62 +1,42 @@
-// The book for Rust and C: its changes and its questions.
+// The book for Rust and C: its changes, its questions and its listings.
 ghost use mathlib.Core.Path.{_≡_};
-ghost use Rattle.orderbook.specs.Book.{isBook, emptyBook};
+ghost use lib.ListN.{length};
+ghost use Rattle.types.specs.Replies.{refuse, mapReply};
+ghost use Rattle.types.specs.Written.{fitted, written};
+ghost use Rattle.told.specs.Numbers.{tell, nothing, oneNumber};
+ghost use Rattle.orderbook.specs.Book.{ofBook, isBook, emptyBook};
 ghost use Rattle.orderbook.specs.Apply.{changeOf, cleared};
-ghost use Rattle.numbered.specs.Numbers.{tell, nothing, valuesIn};
-ghost use Rattle.exports.specs.Books.{areNamed, unnamed, unchanged, bookTold, deltaOf, appliedBy, clearedBy, askedBy};
+ghost use Rattle.orderbook.specs.Lent.{lentBook, leftBook};
+ghost use Rattle.questions.specs.Asked.{valuesIn};
+ghost use Rattle.exports.specs.Books.{bookTold, appliedBy, clearedBy, askedBy, listedBy};
+ghost use Rattle.exports.specs.Memory.{toldLeft};
 use crate::BookTold;
-use numbered::Told;
-use numbered::named;
+use crate::CountsTold;
+use crate::names;
+use deltas::Counts;
+use frames::DeltaAnswer;
 use orderbook::Applied;
-use orderbook::BookDelta;
 use orderbook::OrderBook;
+use orderbook::rows;
+use told::Told;
 use types::Refusal;
+use types::Side;
 
-// Whether a side's number names one, and another number is at most the last of its kind.
-pub(crate) fn are_named(side: u64, number: u64, last: u64) -> bool
-    ensures { λ r. ⌜ r ≡ areNamed side number last ⌝ }
+// The refusal of numbers that name nothing, after 1 if the rows make no book.
+pub(crate) fn refused<'a>(
+    bp: &'a [u32; 128],
+    bq: &'a [u32; 128],
+    ap: &'a [u32; 128],
+    aq: &'a [u32; 128],
+    counts: Counts,
+    why: Refusal,
+) -> Told
+    ensures { λ r. ⌜ r ≡ tell nothing (ofBook (lentBook bp bq ap aq counts) (refuse why)) ⌝ }
 {
-    if side > 1 {
-        return false;
-    }
-    number <= last
-}
-
-pub(crate) fn delta_of(
-    side: u64,
-    action: u64,
-    price: u32,
-    quantity: u32,
-    sequence: u64,
-) -> BookDelta
-    ensures { λ r. ⌜ r ≡ deltaOf side action price quantity sequence ⌝ }
-{
-    BookDelta {
-        side: named::side_of(side),
-        price,
-        quantity,
-        action: named::action_of(action),
-        sequence,
-    }
-}
-
-// The refusal of numbers that name nothing: 1 if the record is no book, else 2.
-pub(crate) fn unnamed(book: OrderBook) -> Told
-    ensures { λ r. ⌜ r ≡ tell nothing (unnamed book) ⌝ }
-{
-    if book.is_book() {
-        return Told::of_refusal(Refusal::OutOfLimits);
+    if rows::is_book(bp, bq, ap, aq, counts) {
+        return Told::of_refusal(why);
     }
     Told::of_refusal(Refusal::NotARecord)
-}
-
-fn unchanged(book: OrderBook) -> BookTold
-    ensures { λ r. ⌜ r ≡ bookTold (unchanged book) ⌝ }
-{
-    BookTold {
-        book,
-        told: unnamed(book),
-    }
 }
 
 fn given(applied: Applied) -> BookTold
@@ -78,27 +58,49 @@ pub extern "C" fn wermazul_book() -> OrderBook
 }
 
 #[no_mangle]
-pub extern "C" fn wermazul_is_book(book: OrderBook) -> bool
-    ensures { λ r. ⌜ r ≡ isBook book ⌝ }
+pub extern "C" fn wermazul_is_book<'a>(
+    bp: &'a [u32; 128],
+    bq: &'a [u32; 128],
+    ap: &'a [u32; 128],
+    aq: &'a [u32; 128],
+    counts: Counts,
+) -> bool
+    ensures { λ r. ⌜ r ≡ isBook (lentBook bp bq ap aq counts) ⌝ }
 {
-    book.is_book()
+    rows::is_book(bp, bq, ap, aq, counts)
 }
 
+// The delta of these numbers, on the rows; numbers that name nothing leave them.
 #[no_mangle]
 pub extern "C" fn wermazul_apply_delta(
-    book: OrderBook,
+    bp: &mut [u32; 128],
+    bq: &mut [u32; 128],
+    ap: &mut [u32; 128],
+    aq: &mut [u32; 128],
+    counts: Counts,
     side: u64,
     action: u64,
     price: u32,
     quantity: u32,
     sequence: u64,
-) -> BookTold
-    ensures { λ r. ⌜ r ≡ bookTold (appliedBy book side action price quantity sequence) ⌝ }
+) -> CountsTold
+    ensures { λ r. ⌜ record { book = leftBook bp bq ap aq (r .counts); told = r .told } ≡ bookTold (appliedBy (lentBook bp bq ap aq counts) side action price quantity sequence) ⌝ }
 {
-    if are_named(side, action, 1) {
-        return given(book.apply_delta(delta_of(side, action, price, quantity, sequence)));
+    match names::delta_of(side, action, price, quantity, sequence) {
+        DeltaAnswer::Is(delta) => {
+            let applied = rows::apply_delta(bp, bq, ap, aq, counts, delta);
+            let outcome = applied.outcome;
+            let counts = applied.counts;
+            CountsTold {
+                counts,
+                told: Told::of_outcome(outcome),
+            }
+        }
+        DeltaAnswer::Refused(why) => CountsTold {
+            counts,
+            told: refused(bp, bq, ap, aq, counts, why),
+        },
     }
-    unchanged(book)
 }
 
 #[no_mangle]
@@ -113,27 +115,101 @@ pub extern "C" fn wermazul_remove_all(book: OrderBook, side: u64) -> BookTold
     ensures { λ r. ⌜ r ≡ bookTold (clearedBy book side) ⌝ }
 {
     if side > 1 {
-        return unchanged(book);
+        let counts = Counts {
+            bids: book.bids.count,
+            asks: book.asks.count,
+            sequence: book.sequence,
+        };
+        let told = refused(
+            &book.bids.prices,
+            &book.bids.quantities,
+            &book.asks.prices,
+            &book.asks.quantities,
+            counts,
+            Refusal::OutOfLimits,
+        );
+        return BookTold { book, told };
     }
-    given(book.remove_all(named::side_of(side)))
+    given(book.remove_all(Side::of(side == 1)))
 }
 
-// The book's answer to a question. `small` is its price or quantity, `large` its count or volume; a question takes what it needs.
+// The book's answer to a question.
 #[no_mangle]
-pub extern "C" fn wermazul_ask(
-    book: OrderBook,
+pub extern "C" fn wermazul_ask<'a>(
+    bp: &'a [u32; 128],
+    bq: &'a [u32; 128],
+    ap: &'a [u32; 128],
+    aq: &'a [u32; 128],
+    counts: Counts,
     question: u64,
     side: u64,
     small: u32,
     large: u64,
 ) -> Told
-    ensures { λ r. ⌜ r ≡ tell valuesIn (askedBy book question side small large) ⌝ }
+    ensures { λ r. ⌜ r ≡ tell valuesIn (askedBy (lentBook bp bq ap aq counts) question side small large) ⌝ }
 {
-    if are_named(side, question, 27) {
-        return Told::of_answer(questions::ask(
-            book,
-            named::question_of(question, named::side_of(side), small, large),
-        ));
+    match names::question_of(question, side, small, large) {
+        questions::numbered::Named::Is(q) => questions::ask_at(bp, bq, ap, aq, counts, q).told(),
+        questions::numbered::Named::Refused(why) => refused(bp, bq, ap, aq, counts, why),
     }
-    unnamed(book)
+}
+
+// The places that a listing fills in memory of `room` places.
+#[no_mangle]
+pub extern "C" fn wermazul_places<'a>(
+    bp: &'a [u32; 128],
+    bq: &'a [u32; 128],
+    ap: &'a [u32; 128],
+    aq: &'a [u32; 128],
+    counts: Counts,
+    listing: u64,
+    side: u64,
+    from: u64,
+    to: u32,
+    room: u64,
+) -> Told
+    ensures { λ r. ⌜ r ≡ tell oneNumber (mapReply length (fitted room (listedBy (lentBook bp bq ap aq counts) listing side from to))) ⌝ }
+{
+    match names::listing_of(listing, side, from, to) {
+        listings::numbered::Named::Is(l) => Told::of_number(listings::places_at(
+            bp,
+            bq,
+            ap,
+            aq,
+            counts,
+            l,
+            room as usize,
+        )),
+        listings::numbered::Named::Refused(why) => refused(bp, bq, ap, aq, counts, why),
+    }
+}
+
+// Writes a listing to the front of lent memory: price, quantity, price, quantity.
+#[no_mangle]
+pub extern "C" fn wermazul_list<'a>(
+    bp: &'a [u32; 128],
+    bq: &'a [u32; 128],
+    ap: &'a [u32; 128],
+    aq: &'a [u32; 128],
+    counts: Counts,
+    listing: u64,
+    side: u64,
+    from: u64,
+    to: u32,
+    out: &mut [u32],
+) -> Told
+    ensures { λ r. ⌜ record { answer = r; memory = now (out .exit) } ≡ toldLeft (written (listedBy (lentBook bp bq ap aq counts) listing side from to) (now (out .entry))) ⌝ }
+{
+    match names::listing_of(listing, side, from, to) {
+        listings::numbered::Named::Is(l) => Told::of_number(listings::write_at(
+            bp,
+            bq,
+            ap,
+            aq,
+            counts,
+            l,
+            out,
+        )),
+        listings::numbered::Named::Refused(why) => refused(bp, bq, ap, aq, counts, why),
+    }
 }

@@ -1,58 +1,52 @@
-// The lines of the feed for Rust and C.
+// The lines of the feed for Rust and C. A line has its line feed.
 ghost use mathlib.Core.Path.{_≡_};
-ghost use Rattle.lines.specs.Frames.{sideByte, actionByte};
-ghost use Rattle.lines.specs.Decode.{decode};
-ghost use Rattle.lines.specs.Streams.{lineEnd};
-ghost use Rattle.lines.specs.Writes.{snapshotLine};
-ghost use Rattle.exports.specs.Feeds.{kindOf, bareLine, deltaTold, lineTold, deltaLineBy, LineWritten};
+ghost use Rattle.types.specs.Written.{written};
+ghost use Rattle.told.specs.Numbers.{tell};
+ghost use Rattle.orderbook.specs.Lent.{lentBook};
+ghost use Rattle.frames.specs.Decode.{decode};
+ghost use Rattle.frames.specs.Sent.{snapshotLine};
+ghost use Rattle.lines.specs.Read.{replyOfFrame, readAs};
+ghost use Rattle.streams.specs.Streams.{lineEnd};
+ghost use Rattle.exports.specs.Feeds.{kindOf, bareLine, deltaTold, lineTold, deltaLineBy};
+ghost use Rattle.exports.specs.Memory.{toldLeft};
 use crate::LineTold;
-use crate::book;
-use lines::Frame;
-use numbered::Told;
-use orderbook::BookDelta;
-use orderbook::DeltaAction;
+use crate::names;
+use deltas::BookDelta;
+use deltas::Counts;
+use frames::DeltaAnswer;
+use lines::FrameAnswer;
 use orderbook::OrderBook;
-use types::Refusal;
-use types::Side;
+use told::Told;
+use types::NumberAnswer;
 
-// What a line is: 0 damaged, 1 a delta, 2 a snapshot. The line has its line feed.
+// A frame's kind, or the refusal.
+fn kind_told(answer: FrameAnswer, book: OrderBook) -> Told
+    ensures { λ r. ⌜ r ≡ tell kindOf (replyOfFrame answer book) ⌝ }
+{
+    match answer {
+        FrameAnswer::Delta(_) => Told::of_number(NumberAnswer::Is(1)),
+        FrameAnswer::Snapshot => Told::of_number(NumberAnswer::Is(2)),
+        FrameAnswer::Refused(why) => Told::of_refusal(why),
+    }
+}
+
+// What a line is: 0 and its kind, 1 for a delta and 2 for a snapshot, or 12.
 #[no_mangle]
-pub extern "C" fn wermazul_line_kind(line: &[u8]) -> u64
-    ensures { λ r. ⌜ r ≡ kindOf (decode (now (line .entry))) ⌝ }
+pub extern "C" fn wermazul_line_kind(line: &[u8]) -> Told
+    ensures { λ r. ⌜ r ≡ tell kindOf (readAs (decode (now (line .entry))) .reply) ⌝ }
 {
     let read = lines::read_frame(line);
-    let frame = read.frame;
-    match frame {
-        Frame::Damaged => 0,
-        Frame::Delta(_) => 1,
-        Frame::Snapshot => 2,
-    }
-}
-
-fn side_number(side: Side) -> u64
-    ensures { λ r. ⌜ r ≡ sideByte side ⌝ }
-{
-    match side {
-        Side::Bid => 0,
-        Side::Ask => 1,
-    }
-}
-
-fn action_number(action: DeltaAction) -> u64
-    ensures { λ r. ⌜ r ≡ actionByte action ⌝ }
-{
-    match action {
-        DeltaAction::Set => 0,
-        DeltaAction::Remove => 1,
-    }
+    let answer = read.answer;
+    let book = read.book;
+    kind_told(answer, book)
 }
 
 // A line that is no delta.
-fn bare_line(kind: u64, book: OrderBook) -> LineTold
-    ensures { λ r. ⌜ r ≡ bareLine kind book ⌝ }
+fn bare_line(told: Told, book: OrderBook) -> LineTold
+    ensures { λ r. ⌜ r ≡ bareLine told book ⌝ }
 {
     LineTold {
-        kind,
+        told,
         side: 0,
         action: 0,
         price: 0,
@@ -62,15 +56,15 @@ fn bare_line(kind: u64, book: OrderBook) -> LineTold
     }
 }
 
-fn delta_told(delta: BookDelta, book: OrderBook) -> LineTold
-    ensures { λ r. ⌜ r ≡ deltaTold delta book ⌝ }
+fn delta_told(told: Told, delta: BookDelta, book: OrderBook) -> LineTold
+    ensures { λ r. ⌜ r ≡ deltaTold told delta book ⌝ }
 {
     let side = delta.side;
     let action = delta.action;
     LineTold {
-        kind: 1,
-        side: side_number(side),
-        action: action_number(action),
+        told,
+        side: side.number(),
+        action: action.number(),
         price: delta.price,
         quantity: delta.quantity,
         sequence: delta.sequence,
@@ -80,15 +74,15 @@ fn delta_told(delta: BookDelta, book: OrderBook) -> LineTold
 
 #[no_mangle]
 pub extern "C" fn wermazul_read_line(line: &[u8]) -> LineTold
-    ensures { λ r. ⌜ r ≡ lineTold (decode (now (line .entry))) ⌝ }
+    ensures { λ r. ⌜ r ≡ lineTold (readAs (decode (now (line .entry)))) ⌝ }
 {
     let read = lines::read_frame(line);
-    let frame = read.frame;
+    let answer = read.answer;
     let book = read.book;
-    match frame {
-        Frame::Damaged => bare_line(0, book),
-        Frame::Delta(delta) => delta_told(delta, book),
-        Frame::Snapshot => bare_line(2, book),
+    let told = kind_told(answer, book);
+    match answer {
+        FrameAnswer::Delta(delta) => delta_told(told, delta, book),
+        _ => bare_line(told, book),
     }
 }
 
@@ -97,7 +91,7 @@ pub extern "C" fn wermazul_read_line(line: &[u8]) -> LineTold
 pub extern "C" fn wermazul_line_end(text: &[u8]) -> u64
     ensures { λ r. ⌜ r ≡ lineEnd (now (text .entry)) ⌝ }
 {
-    lines::stream::line_end(text) as u64
+    streams::line_end(text) as u64
 }
 
 // Writes a delta's line to the front of lent memory and answers its length.
@@ -110,21 +104,25 @@ pub extern "C" fn wermazul_write_delta(
     sequence: u64,
     out: &mut [u8],
 ) -> Told
-    ensures { λ r. ⌜ LineWritten (deltaLineBy side action price quantity sequence) (now (out .entry)) (now (out .exit)) r ⌝ }
+    ensures { λ r. ⌜ record { answer = r; memory = now (out .exit) } ≡ toldLeft (written (deltaLineBy side action price quantity sequence) (now (out .entry))) ⌝ }
 {
-    if book::are_named(side, action, 1) {
-        return Told::of_number(lines::delta::write_delta(
-            book::delta_of(side, action, price, quantity, sequence),
-            out,
-        ));
+    match names::delta_of(side, action, price, quantity, sequence) {
+        DeltaAnswer::Is(delta) => Told::of_number(frames::write_delta(delta, out)),
+        DeltaAnswer::Refused(why) => Told::of_refusal(why),
     }
-    Told::of_refusal(Refusal::OutOfLimits)
 }
 
 // Writes a book's line to the front of lent memory and answers its length.
 #[no_mangle]
-pub extern "C" fn wermazul_write_snapshot(book: OrderBook, out: &mut [u8]) -> Told
-    ensures { λ r. ⌜ LineWritten (snapshotLine book) (now (out .entry)) (now (out .exit)) r ⌝ }
+pub extern "C" fn wermazul_write_snapshot<'a>(
+    bp: &'a [u32; 128],
+    bq: &'a [u32; 128],
+    ap: &'a [u32; 128],
+    aq: &'a [u32; 128],
+    counts: Counts,
+    out: &mut [u8],
+) -> Told
+    ensures { λ r. ⌜ record { answer = r; memory = now (out .exit) } ≡ toldLeft (written (snapshotLine (lentBook bp bq ap aq counts)) (now (out .entry))) ⌝ }
 {
-    Told::of_number(lines::snapshot::write_snapshot(book, out))
+    Told::of_number(lines::snapshot::write_snapshot_at(bp, bq, ap, aq, counts, out))
 }

@@ -1,17 +1,17 @@
 // The ledger for Rust and C.
 ghost use mathlib.Core.Path.{_≡_};
-ghost use Rattle.position.specs.Ledger.{isLedger, changeOf, opened, deposited};
-ghost use Rattle.position.specs.Values.{unrealized};
-ghost use Rattle.numbered.specs.Numbers.{tell, nothing, oneAmount};
+ghost use Rattle.position.specs.Ledger.{isLedger, changeOf, created, deposited};
+ghost use Rattle.valuation.specs.Values.{unrealized};
+ghost use Rattle.told.specs.Numbers.{tell, nothing, oneAmount};
 ghost use Rattle.exports.specs.Ledgers.{unnamed, ledgerTold, fillOf, bookedBy, worthBy};
 use crate::LedgerTold;
 use amount::Amount;
-use numbered::Told;
-use numbered::named;
+use holding::Fill;
 use position::Booked;
-use position::Fill;
 use position::PositionLedger;
+use told::Told;
 use types::Refusal;
+use types::Side;
 
 fn given(booked: Booked) -> LedgerTold
     ensures { λ r. ⌜ r ≡ ledgerTold (changeOf booked) ⌝ }
@@ -36,7 +36,7 @@ fn unnamed(ledger: PositionLedger) -> Told
 
 #[no_mangle]
 pub extern "C" fn wermazul_ledger(cash: i64) -> LedgerTold
-    ensures { λ r. ⌜ r ≡ ledgerTold (opened cash) ⌝ }
+    ensures { λ r. ⌜ r ≡ ledgerTold (created cash) ⌝ }
 {
     given(PositionLedger::new(Amount { value: cash }))
 }
@@ -53,7 +53,7 @@ fn fill_of(symbol: u32, side: u64, quantity: u32, price: u32, commission: Amount
 {
     Fill {
         symbol,
-        side: named::side_of(side),
+        side: Side::of(side == 1),
         quantity,
         price,
         commission,
@@ -92,7 +92,7 @@ pub extern "C" fn wermazul_deposit(ledger: PositionLedger, amount: i64) -> Ledge
 pub extern "C" fn wermazul_unrealized(ledger: PositionLedger, symbol: u32, price: u32) -> Told
     ensures { λ r. ⌜ r ≡ tell oneAmount (unrealized ledger symbol price) ⌝ }
 {
-    Told::of_amount(ledger.checked_unrealized_pnl(symbol, price))
+    Told::of_amount(valuation::checked_unrealized_pnl(ledger, symbol, price))
 }
 
 // What the ledger is worth at prices: 0 unrealized_pnl_total, 1 net_liquidation_value, 2 net_market_exposure, 3 delta_neutral_check.
@@ -101,10 +101,10 @@ pub extern "C" fn wermazul_worth(ledger: PositionLedger, worth: u64, prices: &[u
     ensures { λ r. ⌜ r ≡ worthBy ledger worth (now (prices .entry)) ⌝ }
 {
     match worth {
-        0 => Told::of_amount(ledger.unrealized_pnl_total(prices)),
-        1 => Told::of_amount(ledger.net_liquidation_value(prices)),
-        2 => Told::of_amount(ledger.net_market_exposure(prices)),
-        3 => Told::of_flag(ledger.delta_neutral_check(prices)),
+        0 => Told::of_amount(valuation::unrealized_pnl_total(ledger, prices)),
+        1 => Told::of_amount(valuation::net_liquidation_value(ledger, prices)),
+        2 => Told::of_amount(valuation::net_market_exposure(ledger, prices)),
+        3 => Told::of_flag(valuation::delta_neutral_check(ledger, prices)),
         _ => unnamed(ledger),
     }
 }

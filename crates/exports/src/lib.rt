@@ -1,17 +1,17 @@
-// What Rust and C link: thin functions on numbers, lent numbers and records by value, over the library. An answer comes back as the
-// paper's number and values. Sides, actions, questions, walks, listings and worths are named by their numbers; a number that names none
+// What Rust and C link: thin functions on numbers and lent memory, over the library. A book or a receiver is lent as its four rows (bid
+// prices, bid quantities, ask prices, ask quantities) with its counts beside them, and is asked and changed where it stands. An answer comes
+// back as the paper's number and values. Sides, actions, questions, listings and worths are named by their numbers; a number that names none
 // gives 2, after 1 for a record that is none.
-pub mod book; // book.rt: the book, its changes and its questions
-pub mod inplace; // inplace.rt: a book lent as its rows
-pub mod listing; // listing.rt: the depth calls
+mod names; // names.rt: what the numbers of a call name
+pub mod book; // book.rt: the book, its changes, its questions and its listings
 pub mod ledger; // ledger.rt: the ledger
 pub mod feed; // feed.rt: the lines of the feed
 pub mod receiving; // receiving.rt: the receiver
 
-use numbered::Told;
-use orderbook::Counts;
+use deltas::Counts;
 use orderbook::OrderBook;
 use position::PositionLedger;
+use told::Told;
 
 // A book after a call, and the call's answer.
 #[repr(C)]
@@ -41,17 +41,19 @@ pub struct Held {
     pub book: OrderBook,
 }
 
-// A receiver after a line, and the line's outcome.
+// The state and the counts beside a receiver's rows after a line, and the line's outcome.
 #[repr(C)]
-pub struct HeldTold {
-    pub receiver: Held,
+pub struct TurnTold {
+    pub state: u64,
+    pub counts: Counts,
     pub told: Told,
 }
 
-// What a line is: 0 damaged, 1 a delta, 2 a snapshot. A delta's numbers, and a snapshot's book; what the line does not have is 0 or empty.
+// What a line reads as: 0 and its kind (1 a delta, 2 a snapshot), or 12. A delta's numbers, and a snapshot's book; what the line does not
+// have is 0 or empty.
 #[repr(C)]
 pub struct LineTold {
-    pub kind: u64,
+    pub told: Told,
     pub side: u64,
     pub action: u64,
     pub price: u32,

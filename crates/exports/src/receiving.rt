@@ -1,34 +1,28 @@
 // The receiver for Rust and C: it takes lines, and answers what its book answers while it is live.
 ghost use mathlib.Core.Path.{_≡_};
-ghost use Rattle.types.specs.Answers.{replyOfNumber};
-ghost use Rattle.depth.specs.Written.{placesOf, Wrote};
+ghost use lib.ListN.{length};
+ghost use Rattle.types.specs.Replies.{mapReply};
+ghost use Rattle.types.specs.Written.{fitted, written};
+ghost use Rattle.told.specs.Numbers.{tell, oneNumber};
+ghost use Rattle.questions.specs.Asked.{valuesIn};
 ghost use Rattle.receiver.specs.Turns.{start};
-ghost use Rattle.numbered.specs.Numbers.{tell, oneNumber, valuesIn};
-ghost use Rattle.numbered.specs.Named.{sideNamed};
-ghost use Rattle.exports.specs.Listings.{Lists};
-ghost use Rattle.exports.specs.Receivers.{stateNamed, stateNumber, receiverOf, heldOf, takenBy, heldAsk, shown, shownBy};
+ghost use Rattle.exports.specs.Memory.{toldLeft};
+ghost use Rattle.exports.specs.Receivers.{stateNumber, stateIf, heldOf, lentHeld, leftHeld, takenBy, heldAsk, heldNumbers};
 use crate::Held;
-use crate::HeldTold;
+use crate::TurnTold;
 use crate::book;
-use crate::listing::narrowed;
-use numbered::Told;
-use numbered::named;
+use crate::names;
+use deltas::Counts;
 use receiver::Receiver;
 use receiver::State;
-use receiver_questions::between;
-use receiver_questions::snapshot;
-use receiver_questions::top;
-use types::NumberAnswer;
+use receiver::rows;
+use told::Told;
 use types::Refusal;
 
-fn state_of(number: u64) -> State
-    ensures { λ r. ⌜ r ≡ stateNamed number ⌝ }
+fn state_of(live: bool) -> State
+    ensures { λ r. ⌜ r ≡ stateIf live ⌝ }
 {
-    if number == 0 {
-        State::Waiting
-    } else {
-        State::Live
-    }
+    if live { State::Live } else { State::Waiting }
 }
 
 fn state_number(state: State) -> u64
@@ -40,9 +34,11 @@ fn state_number(state: State) -> u64
     }
 }
 
-fn held_of(receiver: Receiver) -> Held
-    ensures { λ r. ⌜ r ≡ heldOf receiver ⌝ }
+#[no_mangle]
+pub extern "C" fn wermazul_receiver() -> Held
+    ensures { λ r. ⌜ r ≡ heldOf start ⌝ }
 {
+    let receiver = Receiver::new();
     let state = receiver.state;
     let book = receiver.book;
     Held {
@@ -51,147 +47,120 @@ fn held_of(receiver: Receiver) -> Held
     }
 }
 
-fn receiver_of(held: Held) -> Receiver
-    ensures { λ r. ⌜ r ≡ receiverOf held ⌝ }
-{
-    let book = held.book;
-    Receiver {
-        state: state_of(held.state),
-        book,
-    }
-}
-
-#[no_mangle]
-pub extern "C" fn wermazul_receiver() -> Held
-    ensures { λ r. ⌜ r ≡ heldOf start ⌝ }
-{
-    held_of(Receiver::new())
-}
-
 // Takes a line, its line feed included.
 #[no_mangle]
-pub extern "C" fn wermazul_take_line(receiver: Held, line: &[u8]) -> HeldTold
-    ensures { λ r. ⌜ r ≡ takenBy receiver (now (line .entry)) ⌝ }
+pub extern "C" fn wermazul_take_line(
+    bp: &mut [u32; 128],
+    bq: &mut [u32; 128],
+    ap: &mut [u32; 128],
+    aq: &mut [u32; 128],
+    state: u64,
+    counts: Counts,
+    line: &[u8],
+) -> TurnTold
+    ensures { λ r. ⌜ record { receiver = leftHeld bp bq ap aq (r .state) (r .counts); told = r .told } ≡ takenBy (lentHeld bp bq ap aq state counts) (now (line .entry)) ⌝ }
 {
-    if receiver.state > 1 {
-        return HeldTold {
-            receiver,
+    if state > 1 {
+        return TurnTold {
+            state,
+            counts,
             told: Told::of_refusal(Refusal::NotARecord),
         };
     }
-    let taken = receiver_of(receiver).take_line(line);
-    let outcome = taken.outcome;
-    HeldTold {
-        receiver: held_of(taken.receiver),
+    let turned = rows::take_line(bp, bq, ap, aq, state_of(state == 1), counts, line);
+    let after = turned.state;
+    let counts = turned.counts;
+    let outcome = turned.outcome;
+    TurnTold {
+        state: state_number(after),
+        counts,
         told: Told::of_outcome(outcome),
     }
 }
 
 // The receiver's answer to a question, numbered as a book's are.
 #[no_mangle]
-pub extern "C" fn wermazul_receiver_ask(
-    receiver: Held,
+pub extern "C" fn wermazul_receiver_ask<'a>(
+    bp: &'a [u32; 128],
+    bq: &'a [u32; 128],
+    ap: &'a [u32; 128],
+    aq: &'a [u32; 128],
+    state: u64,
+    counts: Counts,
     question: u64,
     side: u64,
     small: u32,
     large: u64,
 ) -> Told
-    ensures { λ r. ⌜ r ≡ tell valuesIn (heldAsk receiver question side small large) ⌝ }
+    ensures { λ r. ⌜ r ≡ tell valuesIn (heldAsk (lentHeld bp bq ap aq state counts) question side small large) ⌝ }
 {
-    if receiver.state > 1 {
+    if state > 1 {
         return Told::of_refusal(Refusal::NotARecord);
     }
-    if book::are_named(side, question, 27) {
-        return Told::of_answer(receiver_questions::ask(
-            receiver_of(receiver),
-            named::question_of(question, named::side_of(side), small, large),
-        ));
+    match names::question_of(question, side, small, large) {
+        questions::numbered::Named::Is(q) => {
+            let live = state_of(state == 1);
+            receiver_questions::ask_at(bp, bq, ap, aq, live, counts, q).told()
+        }
+        questions::numbered::Named::Refused(why) => book::refused(bp, bq, ap, aq, counts, why),
     }
-    book::unnamed(receiver.book)
-}
-
-fn places(
-    receiver: Receiver,
-    listing: u64,
-    side: u64,
-    from: u64,
-    to: u32,
-    room: u64,
-) -> NumberAnswer
-    ensures { λ r. ⌜ replyOfNumber r ≡ placesOf room (shown listing (sideNamed side) from to receiver) ⌝ }
-{
-    if listing == 0 {
-        return top::top_places(receiver, named::side_of(side), from as usize, room as usize);
-    }
-    if listing == 1 {
-        return snapshot::snapshot_places(receiver, from as usize, room as usize);
-    }
-    between::between_places(
-        receiver,
-        named::side_of(side),
-        narrowed(from),
-        to,
-        room as usize,
-    )
 }
 
 // The places that a listing of the receiver's book fills, numbered as a book's are.
 #[no_mangle]
-pub extern "C" fn wermazul_receiver_places(
-    receiver: Held,
+pub extern "C" fn wermazul_receiver_places<'a>(
+    bp: &'a [u32; 128],
+    bq: &'a [u32; 128],
+    ap: &'a [u32; 128],
+    aq: &'a [u32; 128],
+    state: u64,
+    counts: Counts,
     listing: u64,
     side: u64,
     from: u64,
     to: u32,
     room: u64,
 ) -> Told
-    ensures { λ r. ⌜ r ≡ tell oneNumber (placesOf room (shownBy receiver listing side from to)) ⌝ }
+    ensures { λ r. ⌜ r ≡ tell oneNumber (mapReply length (fitted room (heldNumbers (lentHeld bp bq ap aq state counts) listing side from to))) ⌝ }
 {
-    if receiver.state > 1 {
+    if state > 1 {
         return Told::of_refusal(Refusal::NotARecord);
     }
-    if book::are_named(side, listing, 2) {
-        return Told::of_number(places(receiver_of(receiver), listing, side, from, to, room));
+    match names::listing_of(listing, side, from, to) {
+        listings::numbered::Named::Is(l) => {
+            let live = state_of(state == 1);
+            let room = room as usize;
+            Told::of_number(receiver_questions::places_at(bp, bq, ap, aq, live, counts, l, room))
+        }
+        listings::numbered::Named::Refused(why) => book::refused(bp, bq, ap, aq, counts, why),
     }
-    book::unnamed(receiver.book)
-}
-
-fn list(
-    receiver: Receiver,
-    listing: u64,
-    side: u64,
-    from: u64,
-    to: u32,
-    out: &mut [u32],
-) -> NumberAnswer
-    ensures { λ r. ⌜ Wrote (shown listing (sideNamed side) from to receiver) (now (out .entry)) (now (out .exit)) r ⌝ }
-{
-    if listing == 0 {
-        return top::write_top(receiver, named::side_of(side), from as usize, out);
-    }
-    if listing == 1 {
-        return snapshot::write_snapshot(receiver, from as usize, out);
-    }
-    between::write_between(receiver, named::side_of(side), narrowed(from), to, out)
 }
 
 // Writes a listing of the receiver's book to the front of lent memory: price, quantity, price, quantity.
 #[no_mangle]
-pub extern "C" fn wermazul_receiver_list(
-    receiver: Held,
+pub extern "C" fn wermazul_receiver_list<'a>(
+    bp: &'a [u32; 128],
+    bq: &'a [u32; 128],
+    ap: &'a [u32; 128],
+    aq: &'a [u32; 128],
+    state: u64,
+    counts: Counts,
     listing: u64,
     side: u64,
     from: u64,
     to: u32,
     out: &mut [u32],
 ) -> Told
-    ensures { λ r. ⌜ Lists (shownBy receiver listing side from to) (now (out .entry)) (now (out .exit)) r ⌝ }
+    ensures { λ r. ⌜ record { answer = r; memory = now (out .exit) } ≡ toldLeft (written (heldNumbers (lentHeld bp bq ap aq state counts) listing side from to) (now (out .entry))) ⌝ }
 {
-    if receiver.state > 1 {
+    if state > 1 {
         return Told::of_refusal(Refusal::NotARecord);
     }
-    if book::are_named(side, listing, 2) {
-        return Told::of_number(list(receiver_of(receiver), listing, side, from, to, out));
+    match names::listing_of(listing, side, from, to) {
+        listings::numbered::Named::Is(l) => {
+            let live = state_of(state == 1);
+            Told::of_number(receiver_questions::write_at(bp, bq, ap, aq, live, counts, l, out))
+        }
+        listings::numbered::Named::Refused(why) => book::refused(bp, bq, ap, aq, counts, why),
     }
-    book::unnamed(receiver.book)
 }

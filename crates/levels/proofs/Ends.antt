@@ -13,7 +13,7 @@ use Rattle.types.specs.declared.Side.{Side}
 use Rattle.types.specs.declared.Side.the-variants.{Bid, Ask}
 use Rattle.levels.specs.Order.{aheadOf, leads, inOrder}
 use Rattle.levels.specs.Formed.{every, zeros}
-use Rattle.levels.proofs.Flags.{by}
+use Rattle.types.proofs.Booleans.{by}
 use Rattle.levels.proofs.Orders.{ahead-not-self, ahead-trans, ahead-not-back, ordered}
 
 -- what lies in the limits, in numbers

@@ -1,15 +1,7 @@
-pub mod Changes
-pub mod Depths
-pub mod Edits
 pub mod Ends
-pub mod Flags
-pub mod Gaps
 pub mod Orders
 pub mod Pads
 pub mod Places
 pub mod Rows
-pub mod Shifts
 pub mod Steps
 pub mod Tables
-pub mod Turns
-pub mod Walks

@@ -13,7 +13,7 @@ use Rattle.types.specs.declared.Side.{Side}
 use Rattle.types.specs.declared.Side.the-variants.{Bid, Ask}
 use Rattle.levels.specs.Order.{aheadOf, leads, inOrder, countAhead, placeFrom}
 use Rattle.levels.specs.declared.Place.the-variants.{At, Before}
-use Rattle.levels.proofs.Flags.{by}
+use Rattle.types.proofs.Booleans.{by}
 
 -- the laws of the order, by which nothing else splits on the side: not itself, transitive, one or the other
 pub ahead-not-self : (s : Side) (a : ℕ) → aheadOf s a a ≡ false

@@ -2,16 +2,14 @@
 use Prim.Native.Nat.{ℕ, zero, suc, _-_}
 use mathlib.Core.Path.{_≡_, refl}
 use mathlib.Core.Bool.{true, false}
-use mathlib.Core.List.{List, [], _∷_, _++_}
+use mathlib.Core.List.{List, [], _∷_}
 use lib.ListN.{length}
-use Rattle.types.specs.Replies.{done, refused}
 use Rattle.types.specs.declared.Side.the-variants.{Bid, Ask}
 use Rattle.types.specs.declared.PriceLevel.{PriceLevel}
 use Rattle.levels.specs.Order.{leads, inOrder}
-use Rattle.levels.specs.Table.{level, levels, table, pricesOf}
+use Rattle.levels.specs.Table.{level, levels, table}
 use Rattle.levels.specs.Formed.{every, wellFormed}
 use Rattle.levels.specs.Change.{setLevel, removeLevel}
-use Rattle.levels.specs.Walk.{sumOf, totalOf, upTo, costOf, reachFrom, has, depthOf, gapsFrom, gapsOf, leastFrom, leastOf}
 
 -- book K's bids
 unfoldable pub bids : List PriceLevel
@@ -54,37 +52,3 @@ set-levels = (refl, refl, refl, refl, refl)
 pub removed : (removeLevel 99 bids ≡ level 100 5 ∷ level 98 10 ∷ []) × (removeLevel 102 asks ≡ asks) × (length (removeLevel 873 full) ≡ 127)
 unfolding bids asks falling full removeLevel
 removed = (refl, refl, refl)
-
--- lots in all
-pub totals : (totalOf bids ≡ 15) × (totalOf asks ≡ 10) × (totalOf full ≡ 384)
-unfolding bids asks falling full sumOf
-totals = (refl, refl, refl)
-
--- a level at the price itself counts
-pub up-to : (upTo Bid 99 bids ≡ level 100 5 ∷ level 99 0 ∷ []) × (upTo Ask 102 asks ≡ level 101 4 ∷ []) × (upTo Ask 100 asks ≡ [])
-unfolding bids asks upTo
-up-to = (refl, refl, refl)
-
--- the cost of filling best first
-pub costs : (costOf 7 bids ≡ 696) × (costOf 7 asks ≡ 713) × (costOf 15 bids ≡ 1480) × (costOf 0 asks ≡ 0)
-unfolding bids asks costOf
-costs = (refl, refl, refl, refl)
-
--- where the running total reaches a target, or the last price
-pub reached : (reachFrom 0 5 bids ≡ 100) × (reachFrom 0 6 bids ≡ 98) × (reachFrom 0 99 bids ≡ 98) × (reachFrom 0 1 [] ≡ 0)
-unfolding bids reachFrom
-reached = (refl, refl, refl, refl)
-
--- a price with quantity 0 is there
-pub depths : (has 99 bids ≡ true) × (depthOf 99 bids ≡ done 0) × (has 97 bids ≡ false) × (depthOf 97 bids ≡ refused 10 [])
-unfolding bids has depthOf
-depths = (refl, refl, refl, refl)
-
--- gaps between neighbours, and the smallest on one side or on both
-pub gaps :
-    (gapsOf (pricesOf bids) ≡ 1 ∷ 1 ∷ []) ×
-    (leastOf (gapsOf (pricesOf asks)) ≡ done 2) ×
-    (leastOf (gapsOf (pricesOf asks) ++ gapsOf (pricesOf bids)) ≡ done 1) ×
-    (leastOf (gapsOf (pricesOf (level 101 4 ∷ []))) ≡ refused 10 [])
-unfolding bids asks gapsFrom gapsOf leastFrom leastOf
-gaps = (refl, refl, refl, refl)

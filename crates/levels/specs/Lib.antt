@@ -2,6 +2,4 @@ pub mod Order
 pub mod Table
 pub mod Formed
 pub mod Change
-pub mod Edits
-pub mod Walk
 pub mod Examples

@@ -1,13 +1,12 @@
 // One side of a book: a table of at most 128 levels, best first, with one code for bids and asks. The work is done on rows of 128
-// places that are lent, so that the book by value, the receiver and a batch of deltas share one set of functions and proofs.
+// places that are lent, so that a book in place, by value and in a receiver share one set of functions and proofs. What is done to the rows
+// stands in `changes`, and what is asked of them in `walks`.
 ghost use mathlib.Core.Path.{_≡_};
 ghost use mathlib.Core.List.{[]};
 ghost use Rattle.levels.specs.Table.{table};
 
 pub mod search; // search.rt: which price comes first, and where a price stands or belongs
 pub mod formed; // formed.rt: whether two rows and a count are a well-formed side
-pub mod change; // change.rt: what Set and Remove do to a row
-pub mod walk; // walk.rt: quantities, costs, prices reached and gaps
 
 #[repr(C)]
 pub struct Levels {
@@ -20,15 +19,6 @@ pub struct Levels {
 pub enum Place {
     At(usize),
     Before(usize),
-}
-
-// What a change does to each row of a side: nothing, a number written over, put in or taken out; or there is no room.
-pub enum Edit {
-    Keep,
-    Over(usize),
-    In(usize),
-    Out(usize),
-    Full,
 }
 
 impl Levels {

@@ -1,9 +1,4 @@
-pub mod Whole
-pub mod Reading
-pub mod Writing
 pub mod Rows
 pub mod Booked
-pub mod Damage
-pub mod Splits
-pub mod Channel
-pub mod Sent
+pub mod AnyLine
+pub mod Once

@@ -11,10 +11,10 @@ use Rattle.types.specs.declared.PriceLevel.{PriceLevel}
 use Rattle.levels.specs.Table.{level, pricesOf, quantitiesOf, paired, levels, table, rows}
 use Rattle.wire.specs.Wire.{lineFeed, digitsOf, be, line, field, column, Part}
 use Rattle.wire.proofs.Places.{join, line-made, length-column}
-use Rattle.lines.specs.Frames.{Snapshot, snapshot, levelBytes, encode}
-use Rattle.lines.specs.Decode.{levelsIn}
-use Rattle.lines.proofs.Whole.{length-levels, snapshot-length}
-use Rattle.lines.proofs.Reading.{levels-append}
+use Rattle.frames.specs.Frames.{Snapshot, snapshot, levelBytes, encode}
+use Rattle.frames.specs.Decode.{levelsIn}
+use Rattle.frames.proofs.Whole.{length-levels, snapshot-length}
+use Rattle.frames.proofs.Reading.{levels-append}
 
 -- ── from rows ──
 

@@ -1,53 +1,45 @@
-// The frames of the feed and their lines: a line is read as a frame or is damaged, and deltas and books are written as lines.
+// The lines of the feed: a snapshot's line read and written, and any line read as the frame that it is.
 ghost use mathlib.Core.Path.{_≡_};
-ghost use mathlib.Core.Option.{none};
-ghost use Rattle.lines.specs.Decode.{decode, readAs};
+ghost use Rattle.frames.specs.Decode.{decode};
+ghost use Rattle.lines.specs.Read.{readOf, readAs};
 
-pub mod delta; // delta.rt: a delta's line, read and written
 pub mod snapshot; // snapshot.rt: a snapshot's line, read and written
-pub mod stream; // stream.rt: where a line ends
 
-use orderbook::BookDelta;
+use deltas::BookDelta;
+use frames::DeltaAnswer;
 use orderbook::OrderBook;
+use types::Outcome;
+use types::Refusal;
 
-// What a line is. A snapshot's book stands beside it.
-pub enum Frame {
+// What a line is, or 12. A snapshot's book stands beside it.
+pub enum FrameAnswer {
     Delta(BookDelta),
     Snapshot,
-    Damaged,
+    Refused(Refusal),
 }
 
-// A line's frame, and the book of a snapshot, which is empty beside a delta or damage.
+// What a line is, and the book of a snapshot, which is empty beside anything else.
 pub struct ReadFrame {
-    pub frame: Frame,
+    pub answer: FrameAnswer,
     pub book: OrderBook,
 }
 
-// What a damaged line reads as.
-fn damaged() -> ReadFrame
-    ensures { λ r. ⌜ r ≡ readAs none ⌝ }
+// What a line reads as: a frame if it is whole and this is its line, else 12. The line has its line feed.
+pub fn read_frame(line: &[u8]) -> ReadFrame
+    ensures { λ r. ⌜ readOf r ≡ readAs (decode (now (line .entry))) ⌝ }
 {
+    let DeltaAnswer::Is(delta) = frames::read_delta(line) else {
+        let read = snapshot::read_snapshot(line);
+        let outcome = read.outcome;
+        let book = read.book;
+        let answer = match outcome {
+            Outcome::Done => FrameAnswer::Snapshot,
+            Outcome::Refused(why) => FrameAnswer::Refused(why),
+        };
+        return ReadFrame { answer, book };
+    };
     ReadFrame {
-        frame: Frame::Damaged,
+        answer: FrameAnswer::Delta(delta),
         book: OrderBook::new(),
     }
-}
-
-// What a line reads as: a frame if it is whole and this is its line, else damage. The line has its line feed.
-pub fn read_frame(line: &[u8]) -> ReadFrame
-    ensures { λ r. ⌜ r ≡ readAs (decode (now (line .entry))) ⌝ }
-{
-    if line.len() > types::MAX_DIGITS + 1 {
-        return damaged();
-    }
-    if line.len() < 25 {
-        return damaged();
-    }
-    if wire::field(line, 0, 1) == 1 {
-        return ReadFrame {
-            frame: delta::read_delta(line),
-            book: OrderBook::new(),
-        };
-    }
-    snapshot::read_snapshot(line)
 }

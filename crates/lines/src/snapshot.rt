@@ -1,21 +1,28 @@
 // A snapshot's line: 02, sequence 8, bid count, ask count, levels as price 4 and quantity 4, bids then asks, check. It is read as a delta's
-// is: leniently, into tables, which are tested to be a book, written again and compared.
+// is: leniently, into tables, which are tested to be a book, written again and compared. It is written from a book that is lent as its rows.
 ghost use mathlib.Core.Path.{_≡_};
+ghost use mathlib.Core.Bool.{true};
 ghost use mathlib.Core.List.{[], _++_};
 ghost use Prim.Native.Nat.{_+_, _*_, _≤_};
 ghost use lib.ListN.{length, drop};
-ghost use mathlib.Core.Bool.{true};
+ghost use Rattle.types.specs.Answers.{replyOfNumber};
+ghost use Rattle.types.specs.Written.{written};
 ghost use Rattle.levels.specs.Table.{levels, table, rows};
+ghost use Rattle.orderbook.specs.Apply.{changeOf};
+ghost use Rattle.orderbook.specs.Lent.{bookAt, lentBook};
 ghost use Rattle.wire.specs.Wire.{Part, be};
-ghost use Rattle.lines.specs.Frames.{snapshot, snapshotOf, bookOf, levelBytes, encode};
-ghost use Rattle.lines.specs.Decode.{levelsIn, snapshotIn, same, ifLineOf, readAs};
-ghost use Rattle.lines.specs.Writes.{snapshotLine, Writes};
-ghost use Rattle.lines.specs.Tables.{Room, CountsFit};
-use crate::Frame;
-use crate::ReadFrame;
+ghost use Rattle.frames.specs.Frames.{snapshot, snapshotOf, bookOf, levelBytes, encode};
+ghost use Rattle.frames.specs.Decode.{levelsIn, snapshotIn, same, decode};
+ghost use Rattle.frames.specs.Sent.{snapshotLine};
+ghost use Rattle.lines.specs.Read.{noSnapshot, snapshotRead};
+ghost use Rattle.lines.specs.Inner.Tables.{Room, CountsFit};
+use deltas::Counts;
 use levels::Levels;
+use orderbook::Applied;
 use orderbook::OrderBook;
+use orderbook::rows;
 use types::NumberAnswer;
+use types::Outcome;
 use types::Refusal;
 
 // Writes the first n levels of two rows from byte `at` on, and returns the sum of their bytes.
@@ -41,43 +48,73 @@ fn put_levels<'a>(
 }
 
 // Writes a snapshot's kind, sequence and counts, and returns the sum of their bytes.
-fn put_counts(out: &mut [u8], sequence: u64, bids: usize, asks: usize) -> u64
+fn put_counts(out: &mut [u8], counts: Counts) -> u64
     requires { ⌜ 22 ≤ length (now out) ⌝ }
-    ensures { λ r. ⌜ Part (be 1 2 (be 8 sequence (be 1 bids (be 1 asks [])))) 0 (now (out .entry)) (now (out .exit)) r ⌝ }
+    ensures { λ r. ⌜ Part (be 1 2 (be 8 (counts .sequence) (be 1 (counts .bids) (be 1 (counts .asks) [])))) 0 (now (out .entry)) (now (out .exit)) r ⌝ }
 {
-    let sum = wire::put3(out, 0, 1, 2, 8, sequence, 1, bids as u64);
-    let sum2 = wire::put(out, 10, 1, asks as u64);
+    let sum = wire::put3(out, 0, 1, 2, 8, counts.sequence, 1, counts.bids as u64);
+    let sum2 = wire::put(out, 10, 1, counts.asks as u64);
     sum + sum2
 }
 
 // Writes the line of a book's snapshot at the front of `out`.
-fn put_snapshot(book: OrderBook, out: &mut [u8])
-    requires { ⌜ Room book (now out) ⌝ }
-    ensures { λ _. ⌜ now (out .exit) ≡ encode (snapshot (snapshotOf book)) ++ drop (length (encode (snapshot (snapshotOf book)))) (now (out .entry)) ⌝ }
+fn put_snapshot<'a>(
+    bp: &'a [u32; 128],
+    bq: &'a [u32; 128],
+    ap: &'a [u32; 128],
+    aq: &'a [u32; 128],
+    counts: Counts,
+    out: &mut [u8],
+)
+    requires { ⌜ Room (bookAt (now bp) (now bq) (now ap) (now aq) counts) (now out) ⌝ }
+    ensures { λ _. ⌜ now (out .exit) ≡ encode (snapshot (snapshotOf (lentBook bp bq ap aq counts))) ++ drop (length (encode (snapshot (snapshotOf (lentBook bp bq ap aq counts))))) (now (out .entry)) ⌝ }
 {
-    let bids = book.bids.count;
-    let asks = book.asks.count;
-    let at = 11 + 8 * bids;
-    let end = at + 8 * asks;
-    let sum = put_counts(out, book.sequence, bids, asks);
-    let sum2 = put_levels(out, 11, &book.bids.prices, &book.bids.quantities, bids);
-    let sum3 = put_levels(out, at, &book.asks.prices, &book.asks.quantities, asks);
+    let at = 11 + 8 * counts.bids;
+    let end = at + 8 * counts.asks;
+    let sum = put_counts(out, counts);
+    let sum2 = put_levels(out, 11, bp, bq, counts.bids);
+    let sum3 = put_levels(out, at, ap, aq, counts.asks);
     wire::finish(out, end, sum + sum2 + sum3);
 }
 
-// Writes the line of a book's snapshot at the front of `out` and answers its length; 1 if the record is no book, 11 if there is no room.
-pub fn write_snapshot(book: OrderBook, out: &mut [u8]) -> NumberAnswer
-    ensures { λ r. ⌜ Writes (snapshotLine book) (now (out .entry)) (now (out .exit)) r ⌝ }
+// Writes the line of a book's snapshot at the front of `out` and answers its length; 1 if the rows make no book, 11 if there is no room.
+pub fn write_snapshot_at<'a>(
+    bp: &'a [u32; 128],
+    bq: &'a [u32; 128],
+    ap: &'a [u32; 128],
+    aq: &'a [u32; 128],
+    counts: Counts,
+    out: &mut [u8],
+) -> NumberAnswer
+    ensures { λ r. ⌜ record { answer = replyOfNumber r; memory = now (out .exit) } ≡ written (snapshotLine (lentBook bp bq ap aq counts)) (now (out .entry)) ⌝ }
 {
-    if book.is_book() {
-        let n = 25 + 16 * (book.bids.count + book.asks.count);
+    if rows::is_book(bp, bq, ap, aq, counts) {
+        let n = 25 + 16 * (counts.bids + counts.asks);
         if out.len() < n {
             return NumberAnswer::Refused(Refusal::NoRoom);
         }
-        put_snapshot(book, out);
+        put_snapshot(bp, bq, ap, aq, counts, out);
         return NumberAnswer::Is(n as u64);
     }
     NumberAnswer::Refused(Refusal::NotARecord)
+}
+
+// The same of a record by value.
+pub fn write_snapshot(book: OrderBook, out: &mut [u8]) -> NumberAnswer
+    ensures { λ r. ⌜ record { answer = replyOfNumber r; memory = now (out .exit) } ≡ written (snapshotLine book) (now (out .entry)) ⌝ }
+{
+    write_snapshot_at(
+        &book.bids.prices,
+        &book.bids.quantities,
+        &book.asks.prices,
+        &book.asks.quantities,
+        Counts {
+            bids: book.bids.count,
+            asks: book.asks.count,
+            sequence: book.sequence,
+        },
+        out,
+    )
 }
 
 // Reads n levels from byte `at` on into a table.
@@ -110,11 +147,13 @@ fn read_book(line: &[u8]) -> OrderBook
     }
 }
 
-// Whether a line of 25 bytes or more is as long as its counts say, and they are at most 128.
+// Whether a line is as long as its counts say, and they are at most 128.
 fn counts_fit(line: &[u8]) -> bool
-    requires { ⌜ 25 ≤ length (now line) ⌝ }
     ensures { λ r. ⌜ (r ≡ true → CountsFit (now (line .entry))) × (CountsFit (now (line .entry)) → r ≡ true) ⌝ }
 {
+    if line.len() < 25 {
+        return false;
+    }
     let bids = wire::field(line, 9, 1) as usize;
     let asks = wire::field(line, 10, 1) as usize;
     if bids > 128 {
@@ -131,29 +170,49 @@ fn is_line_of(line: &[u8], book: OrderBook) -> bool
     requires { ⌜ (book .bids .count ≤ 128) × (book .asks .count ≤ 128) ⌝ }
     ensures { λ r. ⌜ r ≡ same (now (line .entry)) (encode (snapshot (snapshotOf book))) ⌝ }
 {
-    let n = 25 + 16 * (book.bids.count + book.asks.count);
+    let counts = Counts {
+        bids: book.bids.count,
+        asks: book.asks.count,
+        sequence: book.sequence,
+    };
+    let n = 25 + 16 * (counts.bids + counts.asks);
     let mut own = [0u8; 4121];
-    put_snapshot(book, &mut own);
+    put_snapshot(
+        &book.bids.prices,
+        &book.bids.quantities,
+        &book.asks.prices,
+        &book.asks.quantities,
+        counts,
+        &mut own,
+    );
     check::same(line, &own[..n])
 }
 
-// The snapshot that a line is, or damage.
-pub(crate) fn read_snapshot(line: &[u8]) -> ReadFrame
-    requires { ⌜ 25 ≤ length (now line) ⌝ }
-    ensures { λ r. ⌜ r ≡ readAs (ifLineOf (now (line .entry)) (snapshot (snapshotIn (now (line .entry))))) ⌝ }
+fn damaged() -> Applied
+    ensures { λ r. ⌜ changeOf r ≡ noSnapshot ⌝ }
+{
+    Applied {
+        book: OrderBook::new(),
+        outcome: Outcome::Refused(Refusal::DamagedLine),
+    }
+}
+
+// The book of the snapshot that a line is; 12 and the empty book for any other line. The line has its line feed.
+pub fn read_snapshot(line: &[u8]) -> Applied
+    ensures { λ r. ⌜ changeOf r ≡ snapshotRead (decode (now (line .entry))) ⌝ }
 {
     if !counts_fit(line) {
-        return crate::damaged();
+        return damaged();
     }
     let book = read_book(line);
     if !book.is_book() {
-        return crate::damaged();
+        return damaged();
     }
     if !is_line_of(line, book) {
-        return crate::damaged();
+        return damaged();
     }
-    ReadFrame {
-        frame: Frame::Snapshot,
+    Applied {
         book,
+        outcome: Outcome::Done,
     }
 }

@@ -15,11 +15,11 @@ use Rattle.levels.specs.Order.{aheadOf, leads, inOrder}
 use Rattle.levels.specs.Table.{pricesOf}
 use Rattle.levels.specs.Formed.{every, inLimits}
 use Rattle.levels.specs.Change.{setLevel, removeLevel}
-use Rattle.levels.proofs.Flags.{by}
+use Rattle.types.proofs.Booleans.{by}
 use Rattle.levels.proofs.Orders.{ordered}
 use Rattle.sides.specs.Best.{bestOf, isApart}
 use Rattle.orderbook.specs.Apply.{bestPrice}
-use Rattle.orderbook.specs.Steps.{meets}
+use Rattle.deltas.specs.Inner.Deciding.{meets}
 
 -- a side's levels and the other's stand apart
 abbrev pub apartOn : Side → List PriceLevel → List PriceLevel → Bool

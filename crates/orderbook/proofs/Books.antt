@@ -1,37 +1,26 @@
--- A record that is tested for being a book, and what a book's sides are held to.
-use Prim.Native.Nat.{ℕ, _≤_, _<_}
-use native.Mathlib.Omega.{arith}
-use mathlib.Core.Path.{_≡_, refl, ap, sym, _∙_}
+-- What a book is held to, unpacked once, and the rows that are lent of one.
+use Prim.Native.Nat.{ℕ, _≤_}
+use mathlib.Core.Path.{_≡_, refl, sym, subst}
 use mathlib.Core.Bool.{Bool, true, false, not, and-eq-true-iff}
+use mathlib.Core.List.{List}
 use lib.ListN.{length, take}
-use lib.Seq.{take-all, take-take}
-use borrow.Author.Tests.{not-true, not-false}
-use Rattle.types.specs.Limits.{maxVolume}
-use Rattle.types.specs.Replies.{done}
 use Rattle.types.specs.declared.Side.{Side}
 use Rattle.types.specs.declared.Side.the-variants.{Bid, Ask}
+use Rattle.types.proofs.Booleans.{passed}
 use Rattle.levels.specs.declared.Levels.{Levels}
 use Rattle.levels.specs.Order.{inOrder}
-use Rattle.levels.specs.Table.{levels}
+use Rattle.levels.specs.Table.{rows}
 use Rattle.levels.specs.Formed.{wellFormed}
-use Rattle.levels.specs.Walk.{sumOf, totalOf}
-use Rattle.levels.proofs.Tables.{Sized, Formed, formed, levels-prices, levels-length}
-use Rattle.levels.proofs.Walks.{sum-take, total-rows, total-best, total-limit}
+use Rattle.levels.proofs.Tables.{Sized, Formed, formed, levels-prices}
+use Rattle.deltas.specs.declared.Counts.{Counts}
+use Rattle.deltas.specs.Inner.Deciding.{countOf}
 use Rattle.sides.specs.Best.{bestOf, isApart}
-use Rattle.sides.specs.Limits.{BestFits}
-use Rattle.sides.specs.Questions.{bestTotal}
+use Rattle.sides.specs.Inner.Limits.{SideRows, BestFits}
 use Rattle.sides.proofs.Bests.{best-fits}
 use Rattle.orderbook.specs.declared.OrderBook.{OrderBook}
-use Rattle.orderbook.specs.Book.{sidesFit, isBook, sideOf, levelsOf, bidsOf, asksOf}
-use Rattle.orderbook.specs.Questions.{isCrossed}
-
--- what a test is by its result, when code asks for its opposite
-module _ {result test : Bool} (e : result ≡ test) where
-  pub passed : not result ≡ false → test ≡ true
-  passed h = sym e ∙ not-false result h
-
-  pub failed : not result ≡ true → test ≡ false
-  failed h = sym e ∙ not-true result h
+use Rattle.orderbook.specs.Book.{ofSide, sidesFit, isBook, sideOf, levelsOf, bidsOf, asksOf}
+use Rattle.orderbook.specs.Lent.{bookAt}
+use Rattle.orderbook.specs.Inner.Long.{Long}
 
 -- what `isBook` says
 pub record Book (b : OrderBook) : Type 0 where
@@ -46,39 +35,46 @@ a-book b h =
     let g = and-eq-true-iff (wellFormed Ask (b .asks)) _ .0 (f .1) in
     record { is = h; side = elim [ Bid ↦ formed Bid (b .bids) (f .0) | Ask ↦ formed Ask (b .asks) (g .0) ]; apart = g .1 }
 
-module _ {b : OrderBook} (k : Book b) (s : Side) where
-  -- the best level is within the limits
-  pub best-small : BestFits (bestOf (levelsOf s b))
-  best-small = best-fits (levelsOf s b) (k .side s .limits)
+-- the best levels are within the limits
+pub best-small : {b : OrderBook} → Book b → (s : Side) → BestFits (bestOf (levelsOf s b))
+best-small {b} k s = best-fits (levelsOf s b) (k .side s .limits)
 
-  -- a copy of a side's table is formed as the side is
-  pub copy-formed : {t : Levels} → t ≡ sideOf s b → Formed s t
-  copy-formed e = rw e (k .side s)
+-- a book that is lent, once it is tested
+pub record Tested (b : OrderBook) : Type 0 where
+  pub book : Book b
+  pub long : Long b
 
--- a side's rows, as they are lent, and its levels
-module _ {s : Side} {t : Levels} (f : Formed s t) (w : Sized t) where
-  pub row-order : inOrder s (take (t .count) (t .prices)) ≡ true
-  row-order = rw (levels-prices t w (f .few)) at (f .order)
+-- what code knows behind `if !is_book(..) { return .. }`
+pub tested : {r : Bool} {b : OrderBook} → (r ≡ isBook b) × Long b → not r ≡ false → Tested b
+tested {r} {b} e h = record { book = a-book b (passed (e .0) h); long = e .1 }
 
-  pub row-length : length (levels t) ≡ t .count
-  row-length = levels-length t w (f .few)
+module _ {b : OrderBook} (t : Tested b) where
+  pub sized : (s : Side) → Sized (sideOf s b)
+  sized Bid = record { ps = t .long .bid-prices; qs = t .long .bid-quantities }
+  sized Ask = record { ps = t .long .ask-prices; qs = t .long .ask-quantities }
 
-  -- the quantity of a side is at most 128·10^9
-  pub whole-total : {r : ℕ} → r ≡ sumOf (take (t .count) (t .quantities)) → (r ≡ totalOf (levels t)) × (r ≤ maxVolume)
-  whole-total e =
-      let d = e ∙ sym (total-rows t (w .ps, w .qs, f .few)) in
-      (d, omega (arith, total-limit (levels t) (f .limits) (omega (arith, row-length, f .few))))
+  -- the rows of a side, as the sides and the deltas ask for them
+  pub side-rows : (s : Side) → SideRows (sideOf s b .prices) (sideOf s b .quantities) (sideOf s b .count)
+  side-rows s = let f = t .book .side s in record { long-prices = sized s .ps; long-quantities = sized s .qs; few = f .few; limits = f .limits }
 
-  -- so is the quantity of the best n levels, of fewer than all or of all
-  pub part-total : (n : ℕ) → n < t .count → {r : ℕ} → r ≡ sumOf (take n (t .quantities)) → (r ≡ bestTotal n (levels t)) × (r ≤ maxVolume)
-  part-total n h e =
-      let d = ap sumOf (take-take n (t .count) (t .quantities) (omega arith)) in
-      (e ∙ sym (total-best t (w .ps, w .qs, f .few) n ∙ d), omega (arith, sum-take n (take (t .count) (t .quantities)), whole-total refl .1))
+  pub row-order : (s : Side) → inOrder s (take (sideOf s b .count) (sideOf s b .prices)) ≡ true
+  row-order s = rw (levels-prices (sideOf s b) (sized s) (t .book .side s .few)) at (t .book .side s .order)
 
-  pub all-total : (n : ℕ) → t .count ≤ n → {r : ℕ} → r ≡ sumOf (take (t .count) (t .quantities)) → (r ≡ bestTotal n (levels t)) × (r ≤ maxVolume)
-  all-total n h e = rw (take-all n (levels t) (omega (arith, row-length))) (whole-total e)
+  -- the same, as the best level is asked for
+  pub lent-rows : (s : Side) → (length (sideOf s b .prices) ≡ 128) × (length (sideOf s b .quantities) ≡ 128) × (sideOf s b .count ≤ 128)
+  lent-rows s = (sized s .ps, sized s .qs, t .book .side s .few)
 
--- best bid < best ask in a book, so it is never crossed
-pub never-crossed : (b : OrderBook) → isBook b ≡ true → isCrossed b ≡ done false
-unfolding isCrossed
-never-crossed b h = rw (h, a-book b h .apart)
+  -- and so are the same rows, picked by a side
+  module _ (s : Side) {p q : List ℕ} {n : ℕ} (e : rows p q n ≡ sideOf s b) where
+    pub picked-rows : SideRows p q n
+    picked-rows = subst (λ (t : Levels). SideRows (t .prices) (t .quantities) (t .count)) (sym e) (side-rows s)
+
+    pub picked-order : inOrder s (take n p) ≡ true
+    picked-order = subst (λ (t : Levels). inOrder s (take (t .count) (t .prices)) ≡ true) (sym e) (row-order s)
+
+-- the rows and the count that a side picks of four rows are that side of the book that they make
+pub picked :
+    (s : Side) (bp bq ap aq : List ℕ) (c : Counts) {p q : List ℕ} {n : ℕ} → p ≡ ofSide s bp ap → q ≡ ofSide s bq aq → n ≡ countOf s c →
+    rows p q n ≡ sideOf s (bookAt bp bq ap aq c)
+picked Bid bp bq ap aq c e f g = rw (e, f, g)
+picked Ask bp bq ap aq c e f g = rw (e, f, g)

@@ -1,5 +1,4 @@
--- What every change keeps: an accepted one leaves a book again and raises the sequence by one, a refusal gives back the record that it
--- was handed, and a Remove's quantity does not matter. Any two results that meet one promise are equal.
+-- What every change keeps (specs/Kept.antt), proved. Any two results that meet one promise are equal.
 use Prim.Native.Nat.{ℕ, _+_, _≤_}
 use native.Mathlib.Omega.{arith}
 use mathlib.Core.Path.{_≡_, refl, sym, ap, _∙_}
@@ -19,23 +18,19 @@ use Rattle.levels.specs.Order.{inOrder}
 use Rattle.levels.specs.Table.{level, pricesOf, table}
 use Rattle.levels.specs.Formed.{every, inLimits, wellFormed}
 use Rattle.levels.proofs.Tables.{levels-back, table-formed, well-formed}
-use Rattle.levels.proofs.Changes.{set-order, set-every, remove-order, remove-every}
+use Rattle.changes.proofs.Changes.{set-order, set-every, remove-order, remove-every}
 use Rattle.sides.specs.Best.{bestOf, isApart}
 use Rattle.orderbook.specs.declared.OrderBook.{OrderBook}
-use Rattle.orderbook.specs.declared.BookDelta.{BookDelta}
-use Rattle.orderbook.specs.declared.DeltaAction.{DeltaAction}
-use Rattle.orderbook.specs.declared.DeltaAction.the-variants.{Set, Remove}
+use Rattle.deltas.specs.declared.BookDelta.{BookDelta}
+use Rattle.deltas.specs.declared.DeltaAction.{DeltaAction}
+use Rattle.deltas.specs.declared.DeltaAction.the-variants.{Set, Remove}
 use Rattle.orderbook.specs.declared.Applied.{Applied}
 use Rattle.orderbook.specs.Book.{bidsOf, asksOf, sidesFit, isBook}
-use Rattle.orderbook.specs.Apply.{Change, changeOf, kept, deltaFits, acted, afterDelta, placed, taken, applied, without, cleared, sideCleared}
+use Rattle.deltas.specs.Delta.{deltaFits}
+use Rattle.orderbook.specs.Apply.{Change, changeOf, kept, acted, afterDelta, placed, tried, applied, without, cleared, sideCleared}
+use Rattle.orderbook.specs.Kept.{Keeps, DeltaKeeps, ClearKeeps, SideKeeps, RemoveOfAny}
 use Rattle.orderbook.proofs.Bests.{apart-none}
 use Rattle.orderbook.proofs.Steps.{sides}
-
--- a change of b keeps what it must, if next is the sequence that an accepted one leaves
-pub record Keeps (b : OrderBook) (next : ℕ) (c : Change) : Type 0 where
-  pub book : c .reply ≡ done tt → isBook (c .book) ≡ true
-  pub number : c .reply ≡ done tt → c .book .sequence ≡ next
-  pub same : (n : ℕ) (vs : List ℤ) → c .reply ≡ refused n vs → c .book ≡ b
 
 -- no reply is both
 never : {P : Type 0} (r : Reply (Unit {0})) (n : ℕ) (vs : List ℤ) → r ≡ done tt → r ≡ refused n vs → P
@@ -84,9 +79,8 @@ placed-keeps b next n bids asks e v w =
     (λ m. keeps-refusal b next 6 []))
     (λ a. keeps-refusal b next 5 _)
 
--- a delta: what is accepted is a book again, its sequence one higher, and a refusal gives back the same record
-pub delta-keeps : (b : OrderBook) (d : BookDelta) → Keeps b (b .sequence + 1) (applied b d)
-unfolding applied taken
+pub delta-keeps : DeltaKeeps
+unfolding applied tried
 delta-keeps b d =
     let next = b .sequence + 1 in
     keeps-either b next (isBook b) _ _
@@ -106,10 +100,8 @@ delta-keeps b d =
     (λ f. keeps-refusal b next 2 []))
     (λ h. keeps-refusal b next 1 [])
 
--- a Remove's quantity does not matter, whatever its size
-pub remove-any : (b : OrderBook) (s : Side) (price n q r : ℕ) →
-    applied b (record { side = s; price = price; quantity = q; action = Remove; sequence = n }) ≡ applied b (record { side = s; price = price; quantity = r; action = Remove; sequence = n })
-unfolding applied taken
+pub remove-any : RemoveOfAny
+unfolding applied tried
 remove-any b Bid price n q r = refl
 remove-any b Ask price n q r = refl
 
@@ -121,8 +113,7 @@ none-sound s = record { order = refl; limits = refl }
 none-formed : (s : Side) → wellFormed s (table []) ≡ true
 none-formed s = table-formed [] (omega arith) s (none-sound s .order) (none-sound s .limits)
 
--- clear leaves a book with no levels at sequence 0, or the record that was none
-pub clear-keeps : (b : OrderBook) → Keeps b 0 (cleared b)
+pub clear-keeps : ClearKeeps
 unfolding cleared
 clear-keeps b =
     keeps-either b 0 (isBook b) _ _
@@ -134,8 +125,7 @@ unfolding sidesFit
 without-book Bid b h = rw (none-formed Bid, well-formed Ask (b .asks) (sides Bid b h .rest)) (apart-none Bid (asksOf b))
 without-book Ask b h = rw (well-formed Bid (b .bids) (sides Bid b h .own), none-formed Ask) (apart-none Ask (bidsOf b))
 
--- remove_all leaves a book with the same sequence, or the record that was none
-pub side-keeps : (s : Side) (b : OrderBook) → Keeps b (b .sequence) (sideCleared s b)
+pub side-keeps : SideKeeps
 unfolding sideCleared
 side-keeps s b =
     let number : (s : Side) → without s b .sequence ≡ b .sequence = elim [ Bid ↦ refl | Ask ↦ refl ] in

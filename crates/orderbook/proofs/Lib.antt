@@ -1,4 +1,4 @@
-pub mod Bests
 pub mod Books
+pub mod Bests
 pub mod Kept
 pub mod Steps

@@ -1,5 +1,5 @@
 -- A step carried out on its side's rows is the paper's change: the edit fits the rows, and the tables, the sequence and the reply that
--- it leaves are those of `taken`.
+-- it leaves are those of `tried`.
 use Prim.Native.Nat.{ℕ, _+_, _≤_, _<_}
 use native.Mathlib.Omega.{arith}
 use mathlib.Core.Path.{_≡_, refl, _∙_}
@@ -18,26 +18,24 @@ use Rattle.types.specs.declared.Refusal.{Refusal}
 use Rattle.types.specs.declared.Refusal.the-variants as R
 use Rattle.levels.specs.Order.{inOrder}
 use Rattle.levels.specs.Table.{level, table}
-use Rattle.levels.specs.Formed.{wellFormed}
 use Rattle.levels.specs.Change.{setLevel, removeLevel}
-use Rattle.levels.specs.Edits.{edited, EditFits}
 use Rattle.levels.specs.declared.Levels.{Levels}
-use Rattle.levels.specs.declared.Edit.{Edit}
-use Rattle.levels.specs.declared.Edit.the-variants as E
-use Rattle.levels.proofs.Flags.{by}
+use Rattle.changes.specs.declared.Step.{Step}
+use Rattle.changes.specs.declared.Step.the-variants.{Do, Refuse}
+use Rattle.changes.specs.Inner.Edits.{edited, EditFits, editOf}
+use Rattle.types.proofs.Booleans.{by}
 use Rattle.levels.proofs.Tables.{Sized, Formed, formed, table-back, levels-prices, levels-few, first-row}
-use Rattle.levels.proofs.Changes.{remove-length}
-use Rattle.levels.proofs.Edits.{setOn, set-fits, remove-fits, set-edited, set-full, full-set, remove-edited}
+use Rattle.changes.proofs.Changes.{remove-length}
+use Rattle.changes.proofs.Edits.{set-fits, remove-fits, set-some, set-edited, set-full, remove-edited}
 use Rattle.orderbook.specs.declared.OrderBook.{OrderBook}
-use Rattle.orderbook.specs.declared.BookDelta.{BookDelta}
-use Rattle.orderbook.specs.declared.DeltaAction.{DeltaAction}
-use Rattle.orderbook.specs.declared.DeltaAction.the-variants.{Set, Remove}
-use Rattle.orderbook.specs.declared.Step.{Step}
-use Rattle.orderbook.specs.declared.Step.the-variants.{Do, Refuse}
-use Rattle.orderbook.specs.Book.{sideOf, levelsOf, bidsOf, asksOf, sidesFit, isBook}
-use Rattle.orderbook.specs.Apply.{Change, deltaFits, acted, afterDelta, bestPrice, placed, taken}
-use Rattle.orderbook.specs.Steps.{meets, inverted, ifRoom, actionStep, stepOf, editOf, sequenceAfter, outcomeOf}
-use Rattle.orderbook.specs.Questions.{opposite}
+use Rattle.deltas.specs.declared.BookDelta.{BookDelta}
+use Rattle.deltas.specs.declared.DeltaAction.{DeltaAction}
+use Rattle.deltas.specs.declared.DeltaAction.the-variants.{Set, Remove}
+use Rattle.orderbook.specs.Book.{opposite, sideOf, levelsOf, bidsOf, asksOf, isBook}
+use Rattle.orderbook.specs.Apply.{Change, acted, afterDelta, bestPrice, placed, tried}
+use Rattle.deltas.specs.Delta.{deltaFits}
+use Rattle.deltas.specs.Inner.Deciding.{meets, inverted, actionStep, stepOf, sequenceAfter, outcomeOf}
+use Rattle.orderbook.proofs.Books.{a-book}
 use Rattle.orderbook.proofs.Bests.{apartOn, best-first, priced, set-apart, set-best, remove-apart}
 
 -- what a book's two sides are, when one of them is looked at first
@@ -47,15 +45,8 @@ pub record Sides (s : Side) (b : OrderBook) : Type 0 where
   pub apart : apartOn s (levelsOf s b) (levelsOf (opposite s) b) ≡ true
 
 pub sides : (s : Side) (b : OrderBook) → isBook b ≡ true → Sides s b
-unfolding sidesFit
-sides s b h =
-    let p = and-eq-true-iff (wellFormed Bid (b .bids)) _ .0 h in
-    let q = and-eq-true-iff (wellFormed Ask (b .asks)) _ .0 (p .1) in
-    let bids = formed Bid (b .bids) (p .0) in
-    let asks = formed Ask (b .asks) (q .0) in
-    let go : (s : Side) → Sides s b =
-    elim [ Bid ↦ record { own = bids; rest = asks; apart = q .1 } | Ask ↦ record { own = asks; rest = bids; apart = q .1 } ] in
-    go s
+sides Bid b h = let k = a-book b h in record { own = k .side Bid; rest = k .side Ask; apart = k .apart }
+sides Ask b h = let k = a-book b h in record { own = k .side Ask; rest = k .side Bid; apart = k .apart }
 
 -- the rows of both sides have 128 places
 pub record Rows (s : Side) (b : OrderBook) : Type 0 where
@@ -117,21 +108,6 @@ fits-price : (a : DeltaAction) (p q : ℕ) → deltaFits a p q ≡ true → isPr
 fits-price Set p q h = and-eq-true-iff (isPrice p) (isQuantity q) .0 h .0
 fits-price Remove p q h = h
 
--- an edit that is not `Full` is done
-room : (e : Edit) → (e ≡ E.Full → ⊥) → ifRoom e ≡ Do e
-room E.Full h = absurd (h refl)
-room E.Keep h = refl
-room (E.Over i) h = refl
-room (E.In i) h = refl
-room (E.Out i) h = refl
-
-room-fits : (e : Edit) (n : ℕ) → EditFits e n → EditFits (editOf (ifRoom e)) n
-room-fits E.Full n h = h
-room-fits E.Keep n h = h
-room-fits (E.Over i) n h = h
-room-fits (E.In i) n h = h
-room-fits (E.Out i) n h = h
-
 module _ (s : Side) (b : OrderBook) (p : Sides s b) (w : Rows s b) where
   abbrev mine : List PriceLevel
   mine = levelsOf s b
@@ -158,7 +134,7 @@ module _ (s : Side) (b : OrderBook) (p : Sides s b) (w : Rows s b) where
     act-fits : (a : DeltaAction) → EditFits (editOf (act a)) (sideOf s b .count)
     act-fits Set =
         by (meets s (d .price) (bestPrice other)) (λ e. rw e (p .own .few))
-        (λ e. rw e (room-fits (setOn s (d .price) (sideOf s b)) (sideOf s b .count) (set-fits s (d .price) (sideOf s b) (w .own) (p .own .few))))
+        (λ e. rw e (set-fits s (d .price) (sideOf s b) (w .own) (p .own .few)))
     act-fits Remove = remove-fits s (d .price) (sideOf s b) (w .own) (p .own .few)
 
     act-done : (a : DeltaAction) → isPrice (d .price) ≡ true → carried s (act a) b d ≡ placedOn s b (d .sequence) (acted a s l mine)
@@ -173,7 +149,7 @@ module _ (s : Side) (b : OrderBook) (p : Sides s b) (w : Rows s b) where
         by (leb (length new) maxLevels)
         (λ k.
         let few : length new ≤ maxLevels = leb-true _ _ k in
-        rw (e, room (setOn s (d .price) t) (λ full. omega (arith, full-set s t (w .own) (p .own) l full)), set-edited s t (w .own) (p .own) l few, placed-done b (d .sequence) new s p w (rw e at after) few))
+        rw (e, set-some s t (w .own) (p .own) l few, set-edited s t (w .own) (p .own) l few, placed-done b (d .sequence) new s p w (rw e at after) few))
         (λ k.
         let many : maxLevels < length new = leb-false _ _ k in
         rw (e, set-full s t (w .own) (p .own) l many, refusal-carried s R.FullSide b d, placed-full b (d .sequence) new s p (rw e at after) many)))
@@ -196,8 +172,8 @@ module _ (s : Side) (b : OrderBook) (p : Sides s b) (w : Rows s b) where
         (λ e. rw e (p .own .few))
 
     -- and carried out it is the change
-    pub step-done : d .side ≡ s → carried s (stepOn s b d) b d ≡ taken b d
-    unfolding stepOf taken
+    pub step-done : d .side ≡ s → carried s (stepOn s b d) b d ≡ tried b d
+    unfolding stepOf tried
     step-done own =
         by (deltaFits (d .action) (d .price) (d .quantity))
         (λ e.

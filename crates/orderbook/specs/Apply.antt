@@ -1,11 +1,11 @@
 -- What a delta makes of a book, and what clear and remove_all make of it.
 use Prim.Native.Nat.{ℕ, _+_}
-use mathlib.Core.Bool.{Bool, cond, _&&_}
+use mathlib.Core.Bool.{cond, _&&_}
 use mathlib.Core.List.{List, [], _∷_}
 use lib.Dec.{eqb, leb, ltb}
 use lib.IntN.{ℤ, pos}
 use lib.ListN.{length}
-use Rattle.types.specs.Limits.{isPrice, isQuantity, maxLevels, lastSequence}
+use Rattle.types.specs.Limits.{maxLevels, lastSequence}
 use Rattle.types.specs.Replies.{Reply, done, refused}
 use Rattle.types.specs.Answers.{replyOfOutcome}
 use Rattle.types.specs.declared.Side.{Side}
@@ -14,10 +14,11 @@ use Rattle.types.specs.declared.PriceLevel.{PriceLevel}
 use Rattle.levels.specs.Table.{level, table}
 use Rattle.levels.specs.Change.{setLevel, removeLevel}
 use Rattle.sides.specs.Best.{bestOf, isApart}
+use Rattle.deltas.specs.declared.BookDelta.{BookDelta}
+use Rattle.deltas.specs.declared.DeltaAction.{DeltaAction}
+use Rattle.deltas.specs.declared.DeltaAction.the-variants.{Set, Remove}
+use Rattle.deltas.specs.Delta.{deltaFits}
 use Rattle.orderbook.specs.declared.OrderBook.{OrderBook}
-use Rattle.orderbook.specs.declared.BookDelta.{BookDelta}
-use Rattle.orderbook.specs.declared.DeltaAction.{DeltaAction}
-use Rattle.orderbook.specs.declared.DeltaAction.the-variants.{Set, Remove}
 use Rattle.orderbook.specs.declared.Applied.{Applied}
 use Rattle.orderbook.specs.Book.{isBook, bidsOf, asksOf, emptyBook}
 
@@ -33,11 +34,6 @@ changeOf r = record { book = r .book; reply = replyOfOutcome (r .outcome) }
 -- a refusal gives back the book it was handed
 abbrev pub kept : OrderBook → ℕ → List ℤ → Change
 kept b n vs = record { book = b; reply = refused n vs }
-
--- the numbers are within their limits; Remove ignores the quantity, whatever its size
-abbrev pub deltaFits : DeltaAction → ℕ → ℕ → Bool
-deltaFits Set p q = isPrice p && isQuantity q
-deltaFits Remove p q = isPrice p
 
 -- a side's levels after the action
 abbrev pub acted : DeltaAction → Side → PriceLevel → List PriceLevel → List PriceLevel
@@ -66,8 +62,8 @@ placed b sequence bids asks =
     (kept b 5 (pos (bestPrice bids) ∷ pos (bestPrice asks) ∷ []))
 
 -- a delta to a book: 2 for its limits, 3 after the last sequence number, 4 with expected and got unless it is the next; then its levels are placed
-unfoldable pub taken : OrderBook → BookDelta → Change
-taken b d =
+unfoldable pub tried : OrderBook → BookDelta → Change
+tried b d =
     cond (deltaFits (d .action) (d .price) (d .quantity))
     (cond (ltb (b .sequence) lastSequence)
     (cond (eqb (d .sequence) (b .sequence + 1))
@@ -78,7 +74,7 @@ taken b d =
 
 -- a delta to any record: 1 if it is no book
 unfoldable pub applied : OrderBook → BookDelta → Change
-applied b d = cond (isBook b) (taken b d) (kept b 1 [])
+applied b d = cond (isBook b) (tried b d) (kept b 1 [])
 
 -- clear empties both sides and sets sequence 0; 1 if the record is no book
 unfoldable pub cleared : OrderBook → Change

@@ -11,10 +11,19 @@ use Rattle.levels.specs.Formed.{wellFormed}
 use Rattle.sides.specs.Best.{bestOf, isApart}
 use Rattle.orderbook.specs.declared.OrderBook.{OrderBook}
 
+-- what a side has of two things, the bids' and the asks'
+abbrev pub ofSide : {A : Type 0} → Side → A → A → A
+ofSide Bid bids asks = bids
+ofSide Ask bids asks = asks
+
+-- the other side: buying takes asks, selling takes bids
+abbrev pub opposite : Side → Side
+opposite Bid = Ask
+opposite Ask = Bid
+
 -- a side's table
 abbrev pub sideOf : Side → OrderBook → Levels
-sideOf Bid b = b .bids
-sideOf Ask b = b .asks
+sideOf s b = ofSide s (b .bids) (b .asks)
 
 -- a side's levels, best first
 abbrev pub levelsOf : Side → OrderBook → List PriceLevel

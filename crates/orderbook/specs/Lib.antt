@@ -1,9 +1,7 @@
 pub mod Book
 pub mod Apply
-pub mod Steps
-pub mod LentRows
-pub mod Questions
-pub mod OnePrice
+pub mod Kept
+pub mod Lent
+pub mod Inner
 pub mod Examples
 pub mod Deltas
-pub mod QuestionExamples

@@ -1,24 +1,21 @@
 -- Laws of the ledger: what being one gives.
-use Prim.Native.Nat.{ℕ, _*_, _≤_, _<_}
+use Prim.Native.Nat.{ℕ, _≤_, _<_}
 use mathlib.Core.Path.{_≡_}
 use mathlib.Core.Bool.{true, and-eq-true-iff}
-use native.Mathlib.Omega.{arith}
 use borrow.Author.Tests.{leb-true}
 use lib.IntN.{natAbs}
-use Rattle.amount.proofs.Integers.{add-size}
 use Rattle.amount.proofs.Sums.{all-at}
-use Rattle.position.specs.Holding.{isPosition, lots, PositionIn, FillIn}
-use Rattle.position.specs.Ledger.{at, isPositionAt, isLedger, isMoney, charge}
-use Rattle.position.specs.declared.Fill.{Fill}
+use Rattle.holding.specs.Holding.{isPosition, PositionIn}
+use Rattle.position.specs.Ledger.{positionAt, isPositionAt, isLedger, isMoney}
 use Rattle.position.specs.declared.PositionLedger.{PositionLedger}
-use Rattle.position.proofs.Holdings.{position-in, lots-size, cost-in}
+use Rattle.holding.proofs.Holdings.{position-in}
 
 -- what a ledger has
 pub record LedgerIn (l : PositionLedger) : Type 0 where
   pub cash-in : natAbs (l .cash .value) ≤ 4000000000000000000
   pub commission-in : natAbs (l .commission .value) ≤ 4000000000000000000
   pub paid : isMoney (l .commission .value) ≡ true
-  pub each : (i : ℕ) → i < 32 → isPosition (at l i) ≡ true
+  pub each : (i : ℕ) → i < 32 → isPosition (positionAt l i) ≡ true
 
 pub ledger-in : (l : PositionLedger) → isLedger l ≡ true → LedgerIn l
 unfolding isLedger
@@ -32,10 +29,5 @@ ledger-in l h =
       each = λ i m. all-at (isPositionAt l) 32 i m (b .1);
     }
 
-pub held-in : (l : PositionLedger) → isLedger l ≡ true → (i : ℕ) → i < 32 → PositionIn (at l i)
-held-in l h i m = position-in (at l i) (ledger-in l h .each i m)
-
-pub charge-size : (f : Fill) → FillIn f → natAbs (charge f) ≤ 101000000000000000
-charge-size f h =
-    let cost = f .quantity * f .price in
-    omega (arith, add-size (lots (f .side) cost) (f .commission .value), lots-size (f .side) cost, cost-in f h, h .commission-in)
+pub held-in : (l : PositionLedger) → isLedger l ≡ true → (i : ℕ) → i < 32 → PositionIn (positionAt l i)
+held-in l h i m = position-in (positionAt l i) (ledger-in l h .each i m)

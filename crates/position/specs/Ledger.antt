@@ -1,5 +1,5 @@
 -- What a ledger is, and what fills and deposits make of it.
-use Prim.Native.Nat.{ℕ, _*_}
+use Prim.Native.Nat.{ℕ}
 use mathlib.Core.Bool.{Bool, not, false, _&&_, cond}
 use mathlib.Core.List.{List, [], _∷_}
 use lib.ListN.{getD, set, replicate}
@@ -12,19 +12,19 @@ use Rattle.types.specs.Replies.{Reply, done, refused}
 use Rattle.types.specs.Answers.{replyOfOutcome}
 use Rattle.types.specs.declared.Side.{Side}
 use Rattle.types.specs.declared.Side.the-variants.{Bid, Ask}
-use Rattle.position.specs.declared.Position.{Position}
-use Rattle.position.specs.declared.Fill.{Fill}
+use Rattle.holding.specs.Holding.{isPosition, isFill, charge, positionAfter}
+use Rattle.holding.specs.declared.Position.{Position}
+use Rattle.holding.specs.declared.Fill.{Fill}
 use Rattle.position.specs.declared.PositionLedger.{PositionLedger}
 use Rattle.position.specs.declared.Booked.{Booked}
-use Rattle.position.specs.Holding.{isPosition, isFill, lots, after}
 
 -- a position never traded
 abbrev pub flat : Position
 flat = record { quantity = amount (pos 0); average = 0; realized = amount (pos 0) }
 
 -- the position of a symbol
-abbrev pub at : PositionLedger → ℕ → Position
-at l i = getD (l .positions) i flat
+abbrev pub positionAt : PositionLedger → ℕ → Position
+positionAt l i = getD (l .positions) i flat
 
 -- a money total within its limit
 abbrev pub isMoney : ℤ → Bool
@@ -32,7 +32,7 @@ isMoney z = sizedWithin maxMoney z
 
 -- the position of a symbol is within its limits
 abbrev pub isPositionAt : PositionLedger → ℕ → Bool
-isPositionAt l i = isPosition (at l i)
+isPositionAt l i = isPosition (positionAt l i)
 
 -- the limits hold, of the totals and of each position
 unfoldable pub isLedger : PositionLedger → Bool
@@ -60,16 +60,12 @@ abbrev pub provided : PositionLedger → Bool → ℕ → List ℤ → Change �
 provided l t n vs next = cond t next (kept l n vs)
 
 -- a new ledger is all 0 but for its cash
-abbrev pub opening : ℤ → PositionLedger
-opening cash = record { cash = amount cash; commission = amount (pos 0); positions = replicate symbols flat }
+abbrev pub fresh : ℤ → PositionLedger
+fresh cash = record { cash = amount cash; commission = amount (pos 0); positions = replicate symbols flat }
 
 -- `new`: cash outside its limit gives 2, and beside it the ledger of cash 0
-unfoldable pub opened : ℤ → Change
-opened cash = provided (opening (pos 0)) (isMoney cash) 2 [] (changed (opening cash))
-
--- what a fill takes from cash: a Bid pays its cost, an Ask is paid it, and each pays its commission
-abbrev pub charge : Fill → ℤ
-charge f = lots (f .side) (f .quantity * f .price) +ℤ f .commission .value
+unfoldable pub created : ℤ → Change
+created cash = provided (fresh (pos 0)) (isMoney cash) 2 [] (changed (fresh cash))
 
 -- cash after a fill
 abbrev pub cashAfter : ℤ → Fill → ℤ
@@ -90,18 +86,22 @@ filledWith l f p = record {
 
 -- the ledger after a fill
 unfoldable pub filled : PositionLedger → Fill → PositionLedger
-filled l f = filledWith l f (after (at l (f .symbol)) f)
+filled l f = filledWith l f (positionAfter (positionAt l (f .symbol)) f)
 
 -- the totals that a fill moves are within their limits
 abbrev pub isBearable : ℤ → ℤ → Position → Bool
 isBearable cash commission p = isMoney cash && (isMoney commission && (sizedWithin maxPosition (p .quantity .value) && isMoney (p .realized .value)))
 
+-- and so they are, after a fill to a ledger
+abbrev pub bearsFill : PositionLedger → Fill → Bool
+bearsFill l f =
+    isBearable (cashAfter (l .cash .value) f) (l .commission .value +ℤ f .commission .value) (positionAfter (positionAt l (f .symbol)) f)
+
 -- a fill within its limits to a ledger: 8 with need and have, then 9
 unfoldable pub settled : PositionLedger → Fill → Change
 settled l f =
-    let cash = cashAfter (l .cash .value) f in
-    provided l (not (isShort (f .side) cash)) 8 (charge f ∷ l .cash .value ∷ [])
-    (provided l (isBearable cash (l .commission .value +ℤ f .commission .value) (after (at l (f .symbol)) f)) 9 []
+    provided l (not (isShort (f .side) (cashAfter (l .cash .value) f))) 8 (charge f ∷ l .cash .value ∷ [])
+    (provided l (bearsFill l f) 9 []
     (changed (filled l f)))
 
 -- `apply_fill`: 1, 2, 8, 9, else the ledger after the fill

@@ -1,5 +1,4 @@
-pub mod Holding
 pub mod Ledger
-pub mod Values
-pub mod Examples
+pub mod Kept
 pub mod Source
+pub mod Examples

@@ -3,15 +3,13 @@
 ghost use mathlib.Core.Path.{_≡_};
 ghost use mathlib.Core.Bool.{true};
 ghost use Rattle.amount.specs.Sums.{allTo};
-ghost use Rattle.amount.specs.Whole.{amount};
-ghost use Rattle.position.specs.Holding.{FillIn};
-ghost use Rattle.position.specs.Ledger.{isPositionAt, isLedger, changeOf, opening, opened, charge, isShort, isBearable, settled, booked, deposited};
+ghost use Rattle.holding.specs.Holding.{FillIn};
+ghost use Rattle.position.specs.Ledger.{isPositionAt, isLedger, changeOf, fresh, created, isShort, isBearable, settled, booked, deposited};
 use crate::Booked;
-use crate::Fill;
-use crate::Position;
 use crate::PositionLedger;
-use crate::holding::signed;
 use amount::Amount;
+use holding::Fill;
+use holding::Position;
 use types::MAX_DEPOSIT;
 use types::MAX_MONEY;
 use types::MAX_POSITION;
@@ -19,23 +17,13 @@ use types::Outcome;
 use types::Refusal;
 use types::Side;
 
-impl Fill {
-    // What the fill takes from cash: its cost with its sign, and its commission.
-    fn charge(self) -> Amount
-        requires { ⌜ FillIn self ⌝ }
-        ensures { λ r. ⌜ r ≡ amount (charge self) ⌝ }
-    {
-        let side = self.side;
-        let commission = self.commission;
-        signed(side, self.quantity as u64 * self.price as u64).add(commission)
-    }
-}
-
+// Whether a fill may not leave this cash: a Bid not less than zero, an Ask any.
 fn is_short(side: Side, cash: Amount) -> bool
     ensures { λ r. ⌜ r ≡ isShort side (cash .value) ⌝ }
 {
+    let below = cash.is_negative();
     match side {
-        Side::Bid => cash.is_negative(),
+        Side::Bid => below,
         Side::Ask => false,
     }
 }
@@ -57,8 +45,8 @@ fn is_bearable(cash: Amount, commission: Amount, position: Position) -> bool
 }
 
 impl PositionLedger {
-    fn opening(cash: Amount) -> PositionLedger
-        ensures { λ r. ⌜ r ≡ opening (cash .value) ⌝ }
+    fn fresh(cash: Amount) -> PositionLedger
+        ensures { λ r. ⌜ r ≡ fresh (cash .value) ⌝ }
     {
         let zero = Amount::of(0);
         let flat = Position {
@@ -75,16 +63,16 @@ impl PositionLedger {
 
     // A ledger with this cash and nothing else; cash outside its limit gives 2, beside the ledger of cash 0.
     pub fn new(cash: Amount) -> Booked
-        ensures { λ r. ⌜ changeOf r ≡ opened (cash .value) ⌝ }
+        ensures { λ r. ⌜ changeOf r ≡ created (cash .value) ⌝ }
     {
         if cash.within(MAX_MONEY) {
             return Booked {
-                ledger: PositionLedger::opening(cash),
+                ledger: PositionLedger::fresh(cash),
                 outcome: Outcome::Done,
             };
         }
         Booked {
-            ledger: PositionLedger::opening(Amount::of(0)),
+            ledger: PositionLedger::fresh(Amount::of(0)),
             outcome: Outcome::Refused(Refusal::OutOfLimits),
         }
     }
@@ -136,12 +124,12 @@ impl PositionLedger {
         let paid = self.commission;
         let commission = paid.add(fill.commission);
         let i = fill.symbol as usize;
-        let held = self.positions[i];
-        let position = held.after_fill(fill);
-        if is_bearable(cash, commission, position) {
+        let position = self.positions[i];
+        let moved = position.after_fill(fill);
+        if is_bearable(cash, commission, moved) {
             self.cash = cash;
             self.commission = commission;
-            self.positions[i] = position;
+            self.positions[i] = moved;
             return Booked {
                 ledger: self,
                 outcome: Outcome::Done,
@@ -178,10 +166,10 @@ impl PositionLedger {
     {
         if self.is_ledger() {
             if amount.within(MAX_DEPOSIT) {
-                let held = self.cash;
-                let total = held.add(amount);
-                if total.within(MAX_MONEY) {
-                    self.cash = total;
+                let have = self.cash;
+                let balance = have.add(amount);
+                if balance.within(MAX_MONEY) {
+                    self.cash = balance;
                     return Booked {
                         ledger: self,
                         outcome: Outcome::Done,

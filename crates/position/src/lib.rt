@@ -1,30 +1,11 @@
-// The position ledger: fills, one position for each of 32 symbols, and cash. What a fill does to its position stands in holding.rt, what
-// it does to the account in ledger.rt, and what the account is worth at given prices in values.rt.
+// The position ledger: one position for each of 32 symbols, cash, and commission paid. What a fill and a deposit do to it stands in
+// ledger.rt; crate valuation says what it is worth.
 use amount::Amount;
+pub use holding::Fill;
+pub use holding::Position;
 use types::Outcome;
-use types::Price;
-use types::Quantity;
-use types::Side;
 
-mod holding;
 mod ledger;
-mod values;
-
-pub struct Fill {
-    pub symbol: u32,
-    pub side: Side,
-    pub quantity: Quantity,
-    pub price: Price,
-    pub commission: Amount,
-}
-
-// Signed lots, their average price (0 when flat), and the profit realized so far.
-#[repr(C)]
-pub struct Position {
-    pub quantity: Amount,
-    pub average: u32,
-    pub realized: Amount,
-}
 
 #[repr(C)]
 pub struct PositionLedger {

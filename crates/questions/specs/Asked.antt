@@ -1,12 +1,16 @@
 -- The reply to any question, one clause a question.
 use Prim.Native.Nat.{ℕ}
 use mathlib.Core.Bool.{Bool}
+use mathlib.Core.List.{List}
+use lib.IntN.{ℤ}
 use Rattle.types.specs.Replies.{Reply, done, refuse, mapReply}
 use Rattle.types.specs.declared.PriceLevel.{PriceLevel}
 use Rattle.types.specs.declared.Quote.{Quote}
 use Rattle.quotient.specs.declared.Quotient.{Quotient}
+use Rattle.told.specs.Numbers.{oneNumber, yesOrNo, oneLevel, bothLevels, oneRatio}
 use Rattle.orderbook.specs.declared.OrderBook.{OrderBook}
-use Rattle.orderbook.specs.Questions as B
+use Rattle.questions.specs.Questions.{best, bestQuote}
+use Rattle.questions.specs.Kinds.{bookNumber, sideNumber, topRatio, volumeRatio, tradePrice, bookFlag}
 use Rattle.questions.specs.declared.Question.{Question}
 use Rattle.questions.specs.declared.Question.the-variants as Q
 use Rattle.questions.specs.declared.Answer.{Answer}
@@ -29,33 +33,21 @@ replyOf (A.Quote x) = done (quote x)
 replyOf (A.Ratio x) = done (ratio x)
 replyOf (A.Refused r) = refuse r
 
+-- what a value is told as: a level's price and quantity, the best bid's and then the best ask's, a ratio
+abbrev pub valuesIn : Value → List ℤ
+valuesIn (number x) = oneNumber x
+valuesIn (flag x) = yesOrNo x
+valuesIn (level x) = oneLevel x
+valuesIn (quote x) = bothLevels x
+valuesIn (ratio x) = oneRatio x
+
 -- the reply of a book to a question
 unfoldable pub bookAsk : OrderBook → Question → Reply Value
-bookAsk b (Q.Best s) = mapReply level (B.best s b)
-bookAsk b (Q.BestPrice s) = mapReply number (B.bestPriceOf s b)
-bookAsk b (Q.BestQuantity s) = mapReply number (B.bestQuantityOf s b)
-bookAsk b Q.BestQuote = mapReply quote (B.bestQuote b)
-bookAsk b Q.Spread = mapReply number (B.spread b)
-bookAsk b Q.MidPrice = mapReply ratio (B.midPrice b)
-bookAsk b Q.SpreadPct = mapReply ratio (B.spreadPct b)
-bookAsk b Q.SpreadBps = mapReply ratio (B.spreadBps b)
-bookAsk b Q.WeightedMid = mapReply ratio (B.weightedMid b)
-bookAsk b (Q.DepthAt s p) = mapReply number (B.depthAt s p b)
-bookAsk b (Q.HasPrice s p) = mapReply flag (B.hasPrice s p b)
-bookAsk b (Q.LevelCount s) = mapReply number (B.levelCount s b)
-bookAsk b Q.TotalLevels = mapReply number (B.totalLevels b)
-bookAsk b Q.Sequence = mapReply number (B.sequenceOf b)
-bookAsk b Q.IsEmpty = mapReply flag (B.isEmpty b)
-bookAsk b Q.IsCrossed = mapReply flag (B.isCrossed b)
-bookAsk b (Q.TotalVolume s) = mapReply number (B.totalVolume s b)
-bookAsk b (Q.CumulativeDepth s p) = mapReply number (B.cumulativeDepth s p b)
-bookAsk b (Q.CumulativeQuantity s n) = mapReply number (B.cumulativeQuantity s n b)
-bookAsk b Q.TickSize = mapReply number (B.tickSize b)
-bookAsk b Q.Imbalance = mapReply ratio (B.imbalance b)
-bookAsk b (Q.DepthRatio n) = mapReply ratio (B.depthRatio n b)
-bookAsk b Q.BidAskRatio = mapReply ratio (B.bidAskRatio b)
-bookAsk b Q.AskBidRatio = mapReply ratio (B.askBidRatio b)
-bookAsk b (Q.BidDepthSkew n) = mapReply ratio (B.bidDepthSkew n b)
-bookAsk b (Q.VwapForQty s target) = mapReply ratio (B.vwapForQty s target b)
-bookAsk b (Q.PriceImpact s target) = mapReply ratio (B.priceImpact s target b)
-bookAsk b (Q.PriceAtVolume s target) = mapReply number (B.priceAtVolume s target b)
+bookAsk b (Q.Best s) = mapReply level (best s b)
+bookAsk b Q.BestQuote = mapReply quote (bestQuote b)
+bookAsk b (Q.Number q) = mapReply number (bookNumber q b)
+bookAsk b (Q.OfSide s q) = mapReply number (sideNumber s q b)
+bookAsk b (Q.OfTops q) = mapReply ratio (topRatio q b)
+bookAsk b (Q.OfVolumes q) = mapReply ratio (volumeRatio q b)
+bookAsk b (Q.Traded s trade) = mapReply ratio (tradePrice trade s b)
+bookAsk b (Q.Flag q) = mapReply flag (bookFlag q b)

@@ -1,11 +1,13 @@
-// Each kind of answer as an Answer.
+// Each kind of answer as an Answer, and an Answer as numbers.
 ghost use mathlib.Core.Path.{_≡_};
 ghost use Rattle.types.specs.Replies.{mapReply};
 ghost use Rattle.types.specs.Answers.{replyOfNumber, replyOfFlag, replyOfLevel, replyOfQuote};
 ghost use Rattle.quotient.specs.Over.{replyOfRatio};
-ghost use Rattle.questions.specs.Asked.{number, flag, level, quote, ratio, replyOf};
+ghost use Rattle.told.specs.Numbers.{tell};
+ghost use Rattle.questions.specs.Asked.{number, flag, level, quote, ratio, replyOf, valuesIn};
 use crate::Answer;
 use quotient::Ratio;
+use told::Told;
 use types::FlagAnswer;
 use types::LevelAnswer;
 use types::NumberAnswer;
@@ -54,6 +56,20 @@ impl Answer {
         match answer {
             Ratio::Is(x) => Answer::Ratio(x),
             Ratio::Refused(why) => Answer::Refused(why),
+        }
+    }
+
+    // The paper's number of the answer, and what it carries.
+    pub fn told(self) -> Told
+        ensures { λ r. ⌜ r ≡ tell valuesIn (replyOf self) ⌝ }
+    {
+        match self {
+            Answer::Number(x) => Told::of_number(NumberAnswer::Is(x)),
+            Answer::Flag(x) => Told::of_flag(FlagAnswer::Is(x)),
+            Answer::Level(x) => Told::of_level(LevelAnswer::Is(x)),
+            Answer::Quote(x) => Told::of_quote(QuoteAnswer::Is(x)),
+            Answer::Ratio(x) => Told::of_ratio(Ratio::Is(x)),
+            Answer::Refused(why) => Told::of_refusal(why),
         }
     }
 }

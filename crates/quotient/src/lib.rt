@@ -18,7 +18,8 @@ pub enum Ratio {
 }
 
 impl Quotient {
-    pub fn over(numerator: Amount, denominator: u64) -> Quotient
+    // What is over what, of a denominator that is not 0: `Ratio::over` is the way to it.
+    fn over(numerator: Amount, denominator: u64) -> Quotient
         ensures { λ r. ⌜ r ≡ over (numerator .value) denominator ⌝ }
     {
         Quotient {

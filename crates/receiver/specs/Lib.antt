@@ -1,1 +1,5 @@
 pub mod Turns
+pub mod Kept
+pub mod Lent
+pub mod Inner
+pub mod Examples

@@ -7,11 +7,11 @@ use lib.Dec.{eqb, leb, ltb}
 use Rattle.types.specs.Replies.{Reply, done, refused}
 use Rattle.types.specs.Answers.{replyOfOutcome}
 use Rattle.orderbook.specs.declared.OrderBook.{OrderBook}
-use Rattle.orderbook.specs.declared.BookDelta.{BookDelta}
+use Rattle.deltas.specs.declared.BookDelta.{BookDelta}
 use Rattle.orderbook.specs.Book.{isBook, emptyBook}
 use Rattle.orderbook.specs.Apply.{applied}
-use Rattle.lines.specs.Frames.{Frame, delta, snapshot, bookOf}
-use Rattle.lines.specs.Decode.{decode}
+use Rattle.frames.specs.Frames.{Frame, delta, snapshot, bookOf}
+use Rattle.frames.specs.Decode.{decode}
 use Rattle.receiver.specs.declared.State.{State}
 use Rattle.receiver.specs.declared.State.the-variants.{Waiting, Live}
 use Rattle.receiver.specs.declared.Receiver.{Receiver}
@@ -60,20 +60,24 @@ abbrev pub snapshotTurn : Receiver → OrderBook → Turn
 snapshotTurn r b = cond (loads (r .state) (held r) (b .sequence)) (liveAt b) (stays r 14)
 
 -- the next delta: applied, or 17 and waiting if the book refuses it
-abbrev pub inOrder : Receiver → Reply (Unit {0}) → OrderBook → Turn
-inOrder r (done u) b = liveAt b
-inOrder r (refused n vs) b = waits r 17
+abbrev pub nextTurn : Receiver → Reply (Unit {0}) → OrderBook → Turn
+nextTurn r (done u) b = liveAt b
+nextTurn r (refused n vs) b = waits r 17
 
 -- a delta: 16 while waiting; while live 14 at or below the number held, the next is applied, beyond is 15 and waiting
 abbrev pub deltaTurn : State → Receiver → BookDelta → Turn
 deltaTurn Waiting r d = stays r 16
 deltaTurn Live r d =
     cond (leb (d .sequence) (held r)) (stays r 14)
-    (cond (eqb (d .sequence) (held r + 1)) (inOrder r (applied (r .book) d .reply) (applied (r .book) d .book)) (waits r 15))
+    (cond (eqb (d .sequence) (held r + 1)) (nextTurn r (applied (r .book) d .reply) (applied (r .book) d .book)) (waits r 15))
 
--- a line's turn, by what it reads as: a damaged one is 12 and changes nothing
+-- a damaged line is 12 and changes nothing
+abbrev pub damagedTurn : Receiver → Turn
+damagedTurn r = stays r 12
+
+-- a line's turn, by what it reads as
 unfoldable pub turn : Receiver → Option Frame → Turn
-turn r none = stays r 12
+turn r none = damagedTurn r
 turn r (some (snapshot s)) = snapshotTurn r (bookOf s)
 turn r (some (delta d)) = deltaTurn (r .state) r d
 
@@ -81,7 +85,12 @@ turn r (some (delta d)) = deltaTurn (r .state) r d
 unfoldable pub taken : Receiver → List ℕ → Turn
 taken r l = cond (isReceiver r) (turn r (decode l)) (stays r 1)
 
--- the receiver after lines, one after the other
+-- the turns of lines, one after the other
+unfoldable pub turns : Receiver → List (List ℕ) → List Turn
+turns r [] = []
+turns r (l ∷ ls) = taken r l ∷ turns (taken r l .receiver) ls
+
+-- the receiver after them
 unfoldable pub heard : Receiver → List (List ℕ) → Receiver
 heard r [] = r
 heard r (l ∷ ls) = heard (taken r l .receiver) ls

@@ -1,13 +1,14 @@
-// The receiver of a feed: it takes lines, and answers questions while it is live. Its state is an enum, with room for a third state.
+// The receiver of a feed: it takes lines, and holds a book that it shows while it is live. Its state is an enum, with room for a third
+// state. A line goes to a receiver that is lent, its book as four rows (rows.rt); the call that takes the record by value is thin over it.
 ghost use mathlib.Core.Path.{_≡_};
-ghost use Rattle.types.specs.Replies.{refuse};
-ghost use Rattle.orderbook.specs.Apply.{applied};
-ghost use Rattle.receiver.specs.Turns.{isReceiver, start, turnOf, liveAt, loads, snapshotTurn, inOrder, deltaTurn, taken};
-use lines::Frame;
-use orderbook::BookDelta;
+ghost use Rattle.receiver.specs.Turns.{isReceiver, start, turnOf, taken};
+
+pub mod rows; // rows.rt: a line to a receiver that is lent
+
+use deltas::Counts;
+use levels::Levels;
 use orderbook::OrderBook;
 use types::Outcome;
-use types::Refusal;
 
 pub enum State {
     Waiting,
@@ -24,39 +25,6 @@ pub struct Receiver {
 pub struct Taken {
     pub receiver: Receiver,
     pub outcome: Outcome,
-}
-
-// Done, and live with a book.
-fn live(book: OrderBook) -> Taken
-    ensures { λ r. ⌜ turnOf r ≡ liveAt book ⌝ }
-{
-    Taken {
-        receiver: Receiver {
-            state: State::Live,
-            book,
-        },
-        outcome: Outcome::Done,
-    }
-}
-
-// A refusal, and the receiver in a state with the book that it holds.
-fn turned(state: State, book: OrderBook, why: Refusal) -> Taken
-    ensures { λ r. ⌜ turnOf r ≡ record { receiver = record { state = state; book = book }; reply = refuse why } ⌝ }
-{
-    Taken {
-        receiver: Receiver { state, book },
-        outcome: Outcome::Refused(why),
-    }
-}
-
-// Whether a snapshot of this sequence is loaded: not older while waiting, newer while live.
-fn loads(state: State, held: u64, sequence: u64) -> bool
-    ensures { λ r. ⌜ r ≡ loads state held sequence ⌝ }
-{
-    match state {
-        State::Waiting => held <= sequence,
-        State::Live => held < sequence,
-    }
 }
 
 impl Receiver {
@@ -76,60 +44,41 @@ impl Receiver {
         self.book.is_book()
     }
 
-    fn take_snapshot(self, book: OrderBook) -> Taken
-        ensures { λ r. ⌜ turnOf r ≡ snapshotTurn self book ⌝ }
-    {
-        let state = self.state;
-        if loads(state, self.book.sequence, book.sequence) {
-            return live(book);
-        }
-        turned(state, self.book, Refusal::OldFrame)
-    }
-
-    // The next delta.
-    fn take_next(self, delta: BookDelta) -> Taken
-        ensures { λ r. ⌜ turnOf r ≡ inOrder self (applied (self .book) delta .reply) (applied (self .book) delta .book) ⌝ }
-    {
-        let next = self.book.apply_delta(delta);
-        let outcome = next.outcome;
-        match outcome {
-            Outcome::Done => live(next.book),
-            Outcome::Refused(_) => turned(State::Waiting, self.book, Refusal::RefusedDelta),
-        }
-    }
-
-    fn take_delta(self, delta: BookDelta) -> Taken
-        ensures { λ r. ⌜ turnOf r ≡ deltaTurn (self .state) self delta ⌝ }
-    {
-        let state = self.state;
-        let State::Live = state else {
-            return turned(state, self.book, Refusal::Waiting);
-        };
-        let held = self.book.sequence;
-        let sequence = delta.sequence;
-        if sequence <= held {
-            return turned(state, self.book, Refusal::OldFrame);
-        }
-        if sequence - held == 1 {
-            return self.take_next(delta);
-        }
-        turned(State::Waiting, self.book, Refusal::Gap)
-    }
-
     // What a line makes of a receiver, its line feed included; bytes after the last line feed are one line.
     pub fn take_line(self, line: &[u8]) -> Taken
         ensures { λ r. ⌜ turnOf r ≡ taken self (now (line .entry)) ⌝ }
     {
         let state = self.state;
-        if !self.is_receiver() {
-            return turned(state, self.book, Refusal::NotARecord);
-        }
-        let read = lines::read_frame(line);
-        let frame = read.frame;
-        match frame {
-            Frame::Delta(delta) => self.take_delta(delta),
-            Frame::Snapshot => self.take_snapshot(read.book),
-            Frame::Damaged => turned(state, self.book, Refusal::DamagedLine),
+        let counts = Counts {
+            bids: self.book.bids.count,
+            asks: self.book.asks.count,
+            sequence: self.book.sequence,
+        };
+        let mut bp = self.book.bids.prices;
+        let mut bq = self.book.bids.quantities;
+        let mut ap = self.book.asks.prices;
+        let mut aq = self.book.asks.quantities;
+        let turned = rows::take_line(&mut bp, &mut bq, &mut ap, &mut aq, state, counts, line);
+        let bids = Levels {
+            prices: bp,
+            quantities: bq,
+            count: turned.counts.bids,
+        };
+        let asks = Levels {
+            prices: ap,
+            quantities: aq,
+            count: turned.counts.asks,
+        };
+        let book = OrderBook {
+            bids,
+            asks,
+            sequence: turned.counts.sequence,
+        };
+        let state = turned.state;
+        let outcome = turned.outcome;
+        Taken {
+            receiver: Receiver { state, book },
+            outcome,
         }
     }
 }

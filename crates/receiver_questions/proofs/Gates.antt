@@ -10,7 +10,7 @@ use Rattle.types.specs.Replies.{Reply, numberOf, refuse}
 use Rattle.types.specs.declared.Refusal.{Refusal}
 use Rattle.types.specs.declared.Refusal.the-variants as R
 use Rattle.types.proofs.Refusal as RT
-use Rattle.levels.proofs.Flags.{by}
+use Rattle.types.proofs.Booleans.{by}
 use Rattle.questions.specs.declared.Answer.{Answer}
 use Rattle.questions.specs.declared.Answer.the-variants as A
 use Rattle.questions.proofs.Answer as AT

@@ -1,2 +1,2 @@
 pub mod Gates
-pub mod Listings
+pub mod Gated

@@ -4,9 +4,8 @@ use mathlib.Core.Bool.{cond}
 use mathlib.Core.List.{List, []}
 use lib.Dec.{leb}
 use Rattle.types.specs.Replies.{Reply, done, refused}
-use Rattle.types.specs.declared.Side.{Side}
-use Rattle.types.specs.declared.PriceLevel.{PriceLevel}
-use Rattle.depth.specs.Listed.{topOf, snapshotOf, betweenOf}
+use Rattle.listings.specs.declared.Listing.{Listing}
+use Rattle.listings.specs.Listed.{numbersOf}
 use Rattle.questions.specs.declared.Question.{Question}
 use Rattle.questions.specs.Asked.{Value, bookAsk}
 use Rattle.receiver.specs.declared.State.{State}
@@ -27,14 +26,6 @@ gate Waiting x = shut (refused 16 []) x
 abbrev pub receiverAsk : Receiver → Question → Reply Value
 receiverAsk r q = gate (r .state) (bookAsk (r .book) q)
 
--- top_bids, top_asks and their second names: the best n levels of a side of its book
-abbrev pub topShown : Side → ℕ → Receiver → Reply (List PriceLevel)
-topShown s n r = gate (r .state) (topOf s n (r .book))
-
--- snapshot: the best n levels of both sides
-abbrev pub snapshotShown : ℕ → Receiver → Reply (List PriceLevel)
-snapshotShown n r = gate (r .state) (snapshotOf n (r .book))
-
--- price_levels_between: the levels from lo to hi
-abbrev pub betweenShown : Side → ℕ → ℕ → Receiver → Reply (List PriceLevel)
-betweenShown s lo hi r = gate (r .state) (betweenOf s lo hi (r .book))
+-- the numbers that a receiver lists of its book
+abbrev pub receiverNumbers : Listing → Receiver → Reply (List ℕ)
+receiverNumbers l r = gate (r .state) (numbersOf l (r .book))

@@ -4,7 +4,6 @@ ghost use mathlib.Core.Bool.{cond};
 ghost use lib.Dec.{leb};
 ghost use Rattle.types.specs.Replies.{numberOf, refuse};
 ghost use Rattle.types.specs.Answers.{replyOfNumber};
-ghost use Rattle.depth.specs.Written.{filledOf};
 ghost use Rattle.questions.specs.Asked.{replyOf};
 ghost use Rattle.receiver_questions.specs.Gate.{shut, gate};
 use questions::Answer;
@@ -58,15 +57,5 @@ pub(crate) fn gated_number(state: State, answer: NumberAnswer) -> NumberAnswer
     match state {
         State::Live => answer,
         State::Waiting => shut_number(Refusal::Waiting, answer),
-    }
-}
-
-// The places that a writer filled: none on a refusal.
-pub(crate) fn filled(answer: NumberAnswer) -> usize
-    ensures { λ r. ⌜ r ≡ filledOf (replyOfNumber answer) ⌝ }
-{
-    match answer {
-        NumberAnswer::Is(places) => places as usize,
-        NumberAnswer::Refused(_) => 0,
     }
 }

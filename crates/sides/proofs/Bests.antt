@@ -12,24 +12,14 @@ use Rattle.types.specs.Replies.{Reply, done, refused}
 use Rattle.types.specs.declared.PriceLevel.{PriceLevel}
 use Rattle.levels.specs.Table.{level, levels, rows}
 use Rattle.levels.specs.Formed.{every, inLimits}
-use Rattle.levels.proofs.Turns.{Lent}
+use Rattle.walks.proofs.Turns.{Lent}
 use Rattle.levels.proofs.Tables.{levels-cons}
-use Rattle.levels.proofs.Walks.{every-parts, within-limits}
+use Rattle.walks.proofs.Walks.{every-parts, within-limits}
 use Rattle.sides.specs.declared.Best.{Best}
 use Rattle.sides.specs.declared.Best.the-variants.{At, Nowhere}
 use Rattle.sides.specs.Best.{bestOf, isApart}
-use Rattle.sides.specs.Limits.{BestFits}
+use Rattle.sides.specs.Inner.Limits.{BestFits}
 use Rattle.sides.specs.Questions.{bestLevel, ofBoth}
-
--- the best level of a list
-
-pub best-none : bestOf [] ≡ Nowhere
-unfolding bestOf
-best-none = refl
-
-pub best-some : (l : PriceLevel) (ls : List PriceLevel) → bestOf (l ∷ ls) ≡ At l
-unfolding bestOf
-best-some l ls = refl
 
 -- the best level of rows is their first place
 pub rows-first : (p q : List ℕ) (n : ℕ) → Lent p q n → 0 < n → bestOf (levels (rows p q n)) ≡ At (level (getD p 0 0) (getD q 0 0))

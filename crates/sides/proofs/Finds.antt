@@ -11,12 +11,17 @@ use Rattle.types.specs.declared.Side.{Side}
 use Rattle.levels.specs.declared.Place.the-variants.{At, Before}
 use Rattle.levels.specs.Order.{inOrder, placeFrom}
 use Rattle.levels.specs.Table.{pricesOf, levels, rows}
-use Rattle.levels.specs.Walk.{depthOf, has}
-use Rattle.levels.proofs.Turns.{Lent}
+use Rattle.walks.specs.Walk.{depthOf, has}
+use Rattle.walks.proofs.Turns.{Lent}
 use Rattle.levels.proofs.Tables.{levels-prices}
 use Rattle.levels.proofs.Places.{InList, place-in}
-use Rattle.levels.proofs.Walks.{quantities-rows}
-use Rattle.levels.proofs.Depths as depths
+use Rattle.walks.proofs.Walks.{quantities-rows}
+use Rattle.walks.proofs.Depths as depths
+use Rattle.sides.specs.Inner.Limits.{SideRows}
+
+-- a side's rows are lent as the walks ask for them
+pub lent : {p q : List ℕ} {n : ℕ} → SideRows p q n → Lent p q n
+lent w = (w .long-prices, w .long-quantities, w .few)
 
 -- a price that is found stands at one of the first n places
 pub found-in : (s : Side) (p : List ℕ) (n price i : ℕ) → placeFrom s price 0 (take n p) ≡ At i → i < n

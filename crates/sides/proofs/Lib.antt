@@ -2,3 +2,4 @@ pub mod Bests
 pub mod Prices
 pub mod Finds
 pub mod Ticks
+pub mod Volumes

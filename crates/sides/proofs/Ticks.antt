@@ -12,10 +12,10 @@ use Rattle.types.specs.Replies.{done, refused}
 use Rattle.levels.specs.declared.Levels.{Levels}
 use Rattle.levels.specs.Formed.{every, inLimits}
 use Rattle.levels.specs.Table.{levels}
-use Rattle.levels.specs.Walk.{gapsOf, leastFrom, leastOf}
-use Rattle.levels.proofs.Gaps.{every-both, gaps-bound, gaps-length, gaps-none, least-append, least-of, prices-bound}
+use Rattle.walks.specs.Walk.{gapsOf, leastFrom, leastOf}
+use Rattle.walks.proofs.Gaps.{every-both, gaps-bound, gaps-length, gaps-none, least-append, least-of, prices-bound}
 use Rattle.levels.proofs.Tables.{Sized, levels-prices}
-use Rattle.sides.specs.Limits.{PricesFit}
+use Rattle.sides.specs.Inner.Limits.{PricesFit}
 use Rattle.sides.specs.Questions.{tickSize}
 
 module _ (p q : List ℕ) (n m : ℕ) (f : PricesFit p n) (g : PricesFit q m) where

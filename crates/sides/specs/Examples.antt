@@ -6,9 +6,10 @@ use lib.IntN.{pos}
 use Rattle.types.specs.Replies.{done, refused}
 use Rattle.types.specs.declared.Side.the-variants.{Bid, Ask}
 use Rattle.types.specs.declared.PriceLevel.{PriceLevel}
+use Rattle.quotient.specs.Examples.{quotient}
 use Rattle.quotient.specs.Over.{over, overOrNone}
 use Rattle.levels.specs.Table.{level}
-use Rattle.levels.specs.Walk.{sumOf, totalOf, upTo, costOf, reachFrom, has, depthOf, gapsFrom, gapsOf, leastFrom, leastOf}
+use Rattle.walks.specs.Walk.{sumOf, totalOf, upTo, costOf, reachFrom, has, depthOf, gapsFrom, gapsOf, leastFrom, leastOf}
 use Rattle.sides.specs.Best.{bestOf, isApart}
 use Rattle.sides.specs.Questions.{bestLevel, ofBoth, quoteOf, spreadOf, midOf, spreadShareOf, weightedMidOf, depthAt, hasPrice, cumulativeDepth, bestTotal, tickSize, isCrossed, isEmpty, imbalanceOf, ratioOf, bidAskRatioOf, skewOf, vwapOf, impactOf, volumePriceOf}
 
@@ -28,11 +29,11 @@ pub tops :
     (isCrossed bids asks ≡ false) ×
     (isEmpty bids asks ≡ false) ×
     (ofBoth spreadOf (bestOf bids) (bestOf asks) ≡ done 1) ×
-    (ofBoth midOf (bestOf bids) (bestOf asks) ≡ done (over (pos 201) 2)) ×
-    (ofBoth (spreadShareOf 200) (bestOf bids) (bestOf asks) ≡ done (over (pos 200) 201)) ×
-    (ofBoth (spreadShareOf 20000) (bestOf bids) (bestOf asks) ≡ done (over (pos 20000) 201)) ×
-    (ofBoth weightedMidOf (bestOf bids) (bestOf asks) ≡ done (over (pos 905) 9))
-unfolding bestOf bestLevel isApart ofBoth overOrNone
+    (ofBoth midOf (bestOf bids) (bestOf asks) ≡ done (quotient 201 2)) ×
+    (ofBoth (spreadShareOf 200) (bestOf bids) (bestOf asks) ≡ done (quotient 200 201)) ×
+    (ofBoth (spreadShareOf 20000) (bestOf bids) (bestOf asks) ≡ done (quotient 20000 201)) ×
+    (ofBoth weightedMidOf (bestOf bids) (bestOf asks) ≡ done (quotient 905 9))
+unfolding bestOf bestLevel isApart ofBoth overOrNone over
 tops = (refl, refl, refl, refl, refl, refl, refl, refl, refl, refl)
 
 -- the quantities of the sides, and what is made of them
@@ -40,28 +41,28 @@ pub volumes :
     (totalOf bids ≡ 15) ×
     (totalOf asks ≡ 10) ×
     (bestTotal 2 bids ≡ 5) ×
-    (imbalanceOf (totalOf bids) (totalOf asks) ≡ done (over (pos 5) 25)) ×
-    (ratioOf (totalOf bids) (totalOf asks) ≡ done (over (pos 15) 10)) ×
-    (bidAskRatioOf (totalOf bids) (totalOf asks) ≡ done (over (pos 15) 10)) ×
-    (ratioOf (totalOf asks) (totalOf bids) ≡ done (over (pos 10) 15)) ×
-    (skewOf (totalOf bids) (totalOf asks) ≡ done (over (pos 15) 25))
-unfolding sumOf overOrNone
+    (imbalanceOf (totalOf bids) (totalOf asks) ≡ done (quotient 5 25)) ×
+    (ratioOf (totalOf bids) (totalOf asks) ≡ done (quotient 15 10)) ×
+    (bidAskRatioOf (totalOf bids) (totalOf asks) ≡ done (quotient 15 10)) ×
+    (ratioOf (totalOf asks) (totalOf bids) ≡ done (quotient 10 15)) ×
+    (skewOf (totalOf bids) (totalOf asks) ≡ done (quotient 15 25))
+unfolding sumOf overOrNone over
 volumes = (refl, refl, refl, refl, refl, refl, refl, refl)
 
 -- the price of trading 7 lots by either path, all the lots of a side, one more, none, and more than the limit
 pub prices :
-    (vwapOf 7 bids ≡ done (over (pos 696) 7)) ×
-    (impactOf 7 bids ≡ done (over (pos 696) 7)) ×
-    (vwapOf 7 asks ≡ done (over (pos 713) 7)) ×
-    (impactOf 7 asks ≡ done (over (pos 713) 7)) ×
-    (vwapOf 15 bids ≡ done (over (pos 1480) 15)) ×
+    (vwapOf 7 bids ≡ done (quotient 696 7)) ×
+    (impactOf 7 bids ≡ done (quotient 696 7)) ×
+    (vwapOf 7 asks ≡ done (quotient 713 7)) ×
+    (impactOf 7 asks ≡ done (quotient 713 7)) ×
+    (vwapOf 15 bids ≡ done (quotient 1480 15)) ×
     (vwapOf 16 bids ≡ refused 7 (pos 16 ∷ [])) ×
     (impactOf 16 bids ≡ refused 10 []) ×
-    (vwapOf 0 bids ≡ done (over (pos 0) 1)) ×
+    (vwapOf 0 bids ≡ done (quotient 0 1)) ×
     (impactOf 0 bids ≡ refused 10 []) ×
     (vwapOf 1000000001 bids ≡ refused 2 []) ×
     (impactOf 1000000001 bids ≡ refused 2 [])
-unfolding vwapOf impactOf sumOf costOf
+unfolding vwapOf impactOf sumOf costOf over
 prices = (refl, refl, refl, refl, refl, refl, refl, refl, refl, refl, refl)
 
 -- the price reached at a volume
@@ -97,12 +98,12 @@ pub nothing :
     (ofBoth spreadOf (bestOf bids) (bestOf []) ≡ refused 10 []) ×
     (ofBoth midOf (bestOf []) (bestOf asks) ≡ refused 10 []) ×
     (imbalanceOf 0 0 ≡ refused 10 []) ×
-    (ratioOf 0 10 ≡ done (over (pos 0) 10)) ×
+    (ratioOf 0 10 ≡ done (quotient 0 10)) ×
     (bidAskRatioOf 0 10 ≡ refused 10 []) ×
     (skewOf 0 0 ≡ refused 10 []) ×
     (tickSize [] asks ≡ done 2) ×
     (tickSize [] [] ≡ refused 10 []) ×
     (isEmpty [] [] ≡ true) ×
     (isCrossed [] asks ≡ false)
-unfolding bestOf bestLevel isApart ofBoth overOrNone gapsOf gapsFrom leastOf leastFrom
+unfolding bestOf bestLevel isApart ofBoth overOrNone gapsOf gapsFrom leastOf leastFrom over
 nothing = (refl, refl, refl, refl, refl, refl, refl, refl, refl, refl, refl)

@@ -1,5 +1,5 @@
 pub mod Best
-pub mod Limits
+pub mod Inner
 pub mod Questions
 pub mod OnePrice
 pub mod Examples

@@ -9,7 +9,7 @@ use lib.IntN.{pos}
 use Rattle.types.specs.Limits.{maxQuantity}
 use Rattle.types.specs.Replies.{done, refused}
 use Rattle.types.specs.declared.PriceLevel.{PriceLevel}
-use Rattle.levels.specs.Walk.{totalOf}
+use Rattle.walks.specs.Walk.{totalOf}
 use Rattle.sides.specs.Questions.{priceOf, vwapOf, impactOf}
 
 module _ (target : ℕ) (ls : List PriceLevel) (some : 0 < target) (limit : target ≤ maxQuantity) where

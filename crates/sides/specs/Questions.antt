@@ -14,7 +14,7 @@ use Rattle.types.specs.declared.Quote.{Quote}
 use Rattle.quotient.specs.declared.Quotient.{Quotient}
 use Rattle.quotient.specs.Over.{over, overOrNone}
 use Rattle.levels.specs.Table.{pricesOf}
-use Rattle.levels.specs.Walk.{totalOf, upTo, costOf, reachFrom, has, depthOf, gapsOf, leastOf}
+use Rattle.walks.specs.Walk.{totalOf, upTo, costOf, reachFrom, has, depthOf, gapsOf, leastOf}
 use Rattle.sides.specs.declared.Best.{Best}
 use Rattle.sides.specs.declared.Best.the-variants.{At, Nowhere}
 use Rattle.sides.specs.Best.{bestOf, isApart}
@@ -98,15 +98,18 @@ skewOf b a = overOrNone (pos b) (b + a)
 abbrev pub priceOf : ℕ → List PriceLevel → Quotient
 priceOf target ls = over (pos (costOf target ls)) target
 
+-- that price, if the levels can fill the target, else the refusal that stands in its place
+abbrev pub priceOr : Reply Quotient → ℕ → List PriceLevel → Reply Quotient
+priceOr short target ls = cond (leb target (totalOf ls)) (done (priceOf target ls)) short
+
 -- vwap_for_qty: 0 over 1 for target 0; 7 exactly if the side's total is below the target
 unfoldable pub vwapOf : ℕ → List PriceLevel → Reply Quotient
 vwapOf target ls =
-    ifWithin (isQuantity target)
-    (cond (eqb target 0) (done (over (pos 0) 1)) (cond (leb target (totalOf ls)) (done (priceOf target ls)) (refused 7 (pos target ∷ []))))
+    ifWithin (isQuantity target) (cond (eqb target 0) (done (over (pos 0) 1)) (priceOr (refused 7 (pos target ∷ [])) target ls))
 
 -- price_impact: target 0 or too little depth gives 10
 unfoldable pub impactOf : ℕ → List PriceLevel → Reply Quotient
-impactOf target ls = ifWithin (isQuantity target) (ifValue (not (eqb target 0)) (ifValue (leb target (totalOf ls)) (done (priceOf target ls))))
+impactOf target ls = ifWithin (isQuantity target) (ifValue (not (eqb target 0)) (priceOr (refused 10 []) target ls))
 
 -- price_at_volume: the price at which the running total reaches the target, else the last level's; an empty side or target 0 gives 10
 unfoldable pub volumePriceOf : ℕ → List PriceLevel → Reply ℕ

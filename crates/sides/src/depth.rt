@@ -1,19 +1,17 @@
 // Quantities at a price, up to a price, and how far prices lie apart. A price outside the limits gives 2.
 ghost use mathlib.Core.Path.{_≡_};
 ghost use mathlib.Core.Bool.{true};
-ghost use Prim.Native.Nat.{_≤_};
 ghost use mathlib.Core.List.{_++_};
 ghost use lib.ListN.{length, take};
 ghost use Rattle.levels.specs.Order.{inOrder};
 ghost use Rattle.levels.specs.Table.{levels, rows};
 ghost use Rattle.types.specs.Replies.{done};
 ghost use Rattle.types.specs.Answers.{replyOfNumber, replyOfFlag};
-ghost use Rattle.levels.specs.Walk.{gapsOf, leastOf};
-ghost use Rattle.sides.specs.Limits.{PricesFit};
+ghost use Rattle.walks.specs.Walk.{gapsOf, leastOf};
+ghost use Rattle.sides.specs.Inner.Limits.{SideRows, PricesFit};
 ghost use Rattle.sides.specs.Questions.{depthAt, hasPrice, cumulativeDepth};
 use levels::Place;
 use levels::search;
-use levels::walk;
 use types::FlagAnswer;
 use types::NumberAnswer;
 use types::Refusal;
@@ -33,7 +31,7 @@ pub fn depth_at<'a>(
     n: usize,
     price: u32,
 ) -> NumberAnswer
-    requires { ⌜ (length (now prices) ≡ 128) × (length (now quantities) ≡ 128) × (n ≤ 128) × (inOrder side (take n (now prices)) ≡ true) ⌝ }
+    requires { ⌜ SideRows (now prices) (now quantities) n × (inOrder side (take n (now prices)) ≡ true) ⌝ }
     ensures { λ r. ⌜ replyOfNumber r ≡ depthAt price (levels (rows (now (prices .entry)) (now (quantities .entry)) n)) ⌝ }
 {
     if !types::is_price(price) {
@@ -53,7 +51,7 @@ pub fn has_price<'a>(
     n: usize,
     price: u32,
 ) -> FlagAnswer
-    requires { ⌜ (length (now prices) ≡ 128) × (length (now quantities) ≡ 128) × (n ≤ 128) × (inOrder side (take n (now prices)) ≡ true) ⌝ }
+    requires { ⌜ SideRows (now prices) (now quantities) n × (inOrder side (take n (now prices)) ≡ true) ⌝ }
     ensures { λ r. ⌜ replyOfFlag r ≡ hasPrice price (levels (rows (now (prices .entry)) (now (quantities .entry)) n)) ⌝ }
 {
     if !types::is_price(price) {
@@ -73,13 +71,13 @@ pub fn cumulative_depth<'a>(
     n: usize,
     price: u32,
 ) -> NumberAnswer
-    requires { ⌜ (length (now prices) ≡ 128) × (length (now quantities) ≡ 128) × (n ≤ 128) ⌝ }
+    requires { ⌜ SideRows (now prices) (now quantities) n ⌝ }
     ensures { λ r. ⌜ replyOfNumber r ≡ cumulativeDepth side price (levels (rows (now (prices .entry)) (now (quantities .entry)) n)) ⌝ }
 {
     if !types::is_price(price) {
         return NumberAnswer::Refused(Refusal::OutOfLimits);
     }
-    NumberAnswer::Is(walk::total_up_to(side, prices, quantities, n, price))
+    NumberAnswer::Is(walks::total_up_to(side, prices, quantities, n, price))
 }
 
 // The smallest gap on either side, of `n` bids and `m` asks; 10 where neither side has two levels.
@@ -92,6 +90,6 @@ pub fn tick_size<'a>(bids: &'a [u32; 128], n: usize, asks: &'a [u32; 128], m: us
             return NumberAnswer::Refused(Refusal::NoValue);
         }
     }
-    let least = walk::smallest_gap(bids, n, types::MAX_PRICE);
-    NumberAnswer::Is(walk::smallest_gap(asks, m, least) as u64)
+    let least = walks::smallest_gap(bids, n, types::MAX_PRICE);
+    NumberAnswer::Is(walks::smallest_gap(asks, m, least) as u64)
 }

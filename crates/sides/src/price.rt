@@ -1,50 +1,53 @@
 // The price of trading a target on one side, and the price reached at a volume. A target outside its limits gives 2.
 ghost use mathlib.Core.Path.{_≡_};
-ghost use mathlib.Core.Bool.{true};
-ghost use Prim.Native.Nat.{_≤_};
-ghost use lib.ListN.{length};
-ghost use Rattle.levels.specs.Table.{levels, rows};
-ghost use Rattle.levels.specs.Formed.{every, inLimits};
-ghost use Rattle.quotient.specs.Over.{replyOfRatio};
+ghost use Prim.Native.Nat.{_≤_, _<_};
+ghost use Rattle.types.specs.Replies.{refuse};
 ghost use Rattle.types.specs.Answers.{replyOfNumber};
-ghost use Rattle.sides.specs.Questions.{priceOf, vwapOf, impactOf, volumePriceOf};
+ghost use Rattle.quotient.specs.Over.{replyOfRatio};
+ghost use Rattle.levels.specs.Table.{levels, rows};
+ghost use Rattle.sides.specs.Inner.Limits.{SideRows};
+ghost use Rattle.sides.specs.Questions.{priceOr, vwapOf, impactOf, volumePriceOf};
 use amount::Amount;
-use levels::walk;
-use quotient::Quotient;
 use quotient::Ratio;
 use types::NumberAnswer;
 use types::Refusal;
+use walks::Filling;
 
-// The cost of filling the target best first, over the target.
-fn price_of<'a>(
+// The cost of filling the target best first, over the target; `short` where the levels hold too little. Both prices below are this one walk.
+fn price_or<'a>(
     prices: &'a [u32; 128],
     quantities: &'a [u32; 128],
     n: usize,
     target: u32,
-) -> Quotient
-    requires { ⌜ (length (now prices) ≡ 128) × (length (now quantities) ≡ 128) × (n ≤ 128) × (target ≤ 1000000000) × (every inLimits (levels (rows (now prices) (now quantities) n)) ≡ true) ⌝ }
-    ensures { λ r. ⌜ r ≡ priceOf target (levels (rows (now (prices .entry)) (now (quantities .entry)) n)) ⌝ }
+    short: Refusal,
+) -> Ratio
+    requires { ⌜ SideRows (now prices) (now quantities) n × (0 < target) × (target ≤ 1000000000) ⌝ }
+    ensures { λ r. ⌜ replyOfRatio r ≡ priceOr (refuse short) target (levels (rows (now (prices .entry)) (now (quantities .entry)) n)) ⌝ }
 {
-    Quotient::over(
-        Amount::of(walk::cost(prices, quantities, n, target)),
-        target as u64,
-    )
+    let filling = walks::fill(prices, quantities, n, target);
+    match filling {
+        Filling::Cost(cost) => Ratio::over(Amount::of(cost), target as u64),
+        Filling::Short => Ratio::Refused(short),
+    }
 }
 
 pub fn vwap<'a>(prices: &'a [u32; 128], quantities: &'a [u32; 128], n: usize, target: u32) -> Ratio
-    requires { ⌜ (length (now prices) ≡ 128) × (length (now quantities) ≡ 128) × (n ≤ 128) × (every inLimits (levels (rows (now prices) (now quantities) n)) ≡ true) ⌝ }
+    requires { ⌜ SideRows (now prices) (now quantities) n ⌝ }
     ensures { λ r. ⌜ replyOfRatio r ≡ vwapOf target (levels (rows (now (prices .entry)) (now (quantities .entry)) n)) ⌝ }
 {
     if !types::is_quantity(target) {
         return Ratio::Refused(Refusal::OutOfLimits);
     }
     if target == 0 {
-        return Ratio::Is(Quotient::over(Amount::of(0), 1));
+        return Ratio::over(Amount::of(0), 1);
     }
-    if walk::total(quantities, n) < target as u64 {
-        return Ratio::Refused(Refusal::InsufficientLiquidity { target });
-    }
-    Ratio::Is(price_of(prices, quantities, n, target))
+    price_or(
+        prices,
+        quantities,
+        n,
+        target,
+        Refusal::InsufficientLiquidity { target },
+    )
 }
 
 pub fn impact<'a>(
@@ -53,7 +56,7 @@ pub fn impact<'a>(
     n: usize,
     target: u32,
 ) -> Ratio
-    requires { ⌜ (length (now prices) ≡ 128) × (length (now quantities) ≡ 128) × (n ≤ 128) × (every inLimits (levels (rows (now prices) (now quantities) n)) ≡ true) ⌝ }
+    requires { ⌜ SideRows (now prices) (now quantities) n ⌝ }
     ensures { λ r. ⌜ replyOfRatio r ≡ impactOf target (levels (rows (now (prices .entry)) (now (quantities .entry)) n)) ⌝ }
 {
     if !types::is_quantity(target) {
@@ -62,10 +65,7 @@ pub fn impact<'a>(
     if target == 0 {
         return Ratio::Refused(Refusal::NoValue);
     }
-    if walk::total(quantities, n) < target as u64 {
-        return Ratio::Refused(Refusal::NoValue);
-    }
-    Ratio::Is(price_of(prices, quantities, n, target))
+    price_or(prices, quantities, n, target, Refusal::NoValue)
 }
 
 pub fn volume_price<'a>(
@@ -74,7 +74,7 @@ pub fn volume_price<'a>(
     n: usize,
     target: u64,
 ) -> NumberAnswer
-    requires { ⌜ (length (now prices) ≡ 128) × (length (now quantities) ≡ 128) × (n ≤ 128) ⌝ }
+    requires { ⌜ SideRows (now prices) (now quantities) n ⌝ }
     ensures { λ r. ⌜ replyOfNumber r ≡ volumePriceOf target (levels (rows (now (prices .entry)) (now (quantities .entry)) n)) ⌝ }
 {
     if types::MAX_VOLUME < target {
@@ -86,5 +86,5 @@ pub fn volume_price<'a>(
     if target == 0 {
         return NumberAnswer::Refused(Refusal::NoValue);
     }
-    NumberAnswer::Is(walk::reach(prices, quantities, n, target) as u64)
+    NumberAnswer::Is(walks::reach(prices, quantities, n, target) as u64)
 }

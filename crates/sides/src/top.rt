@@ -5,13 +5,13 @@ ghost use Prim.Native.Nat.{_≤_};
 ghost use lib.ListN.{length};
 ghost use Rattle.levels.specs.Table.{levels, rows};
 ghost use Rattle.quotient.specs.Over.{replyOfRatio};
+ghost use Rattle.types.specs.Replies.{mapReply};
 ghost use Rattle.types.specs.Answers.{replyOfNumber, replyOfLevel, replyOfQuote};
 ghost use Rattle.sides.specs.Best.{bestOf, isApart};
 ghost use Rattle.sides.specs.Questions.{bestLevel, ofBoth, quoteOf, spreadOf, midOf, spreadShareOf, weightedMidOf};
-ghost use Rattle.sides.specs.Limits.{BestFits};
+ghost use Rattle.sides.specs.Inner.Limits.{BestFits};
 use crate::Best;
 use amount::Amount;
-use quotient::Quotient;
 use quotient::Ratio;
 use types::LevelAnswer;
 use types::NumberAnswer;
@@ -56,6 +56,24 @@ pub fn best_level(best: Best) -> LevelAnswer
     LevelAnswer::Is(l)
 }
 
+pub fn best_price(best: Best) -> NumberAnswer
+    ensures { λ r. ⌜ replyOfNumber r ≡ mapReply (λ l. l .price) (bestLevel best) ⌝ }
+{
+    let Best::At(l) = best else {
+        return NumberAnswer::Refused(Refusal::NoValue);
+    };
+    NumberAnswer::Is(l.price as u64)
+}
+
+pub fn best_quantity(best: Best) -> NumberAnswer
+    ensures { λ r. ⌜ replyOfNumber r ≡ mapReply (λ l. l .quantity) (bestLevel best) ⌝ }
+{
+    let Best::At(l) = best else {
+        return NumberAnswer::Refused(Refusal::NoValue);
+    };
+    NumberAnswer::Is(l.quantity as u64)
+}
+
 pub fn best_quote(bid: Best, ask: Best) -> QuoteAnswer
     ensures { λ r. ⌜ replyOfQuote r ≡ ofBoth quoteOf bid ask ⌝ }
 {
@@ -91,7 +109,7 @@ pub fn mid_price(bid: Best, ask: Best) -> Ratio
         return Ratio::Refused(Refusal::NoValue);
     };
     let sum = b.price as u64 + a.price as u64;
-    Ratio::Is(Quotient::over(Amount::of(sum), 2))
+    Ratio::over(Amount::of(sum), 2)
 }
 
 // `times` times the spread, over the sum of the best prices.

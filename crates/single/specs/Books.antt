@@ -1,10 +1,15 @@
--- The calls of crate orderbook; the one over a lent book stands in Lent.
-use Rattle.types.proofs.Once.{one-number, one-flag, one-level, one-quote}
-use Rattle.quotient.proofs.Once.{one-ratio}
+-- The calls of crate orderbook; the one over a lent record stands in Lent.
+use mathlib.Core.Path.{_≡_, ap, sym, _∙_}
+use denote.Ref.{now}
+use Rattle.types.specs.Answers.{replyOfOutcome}
+use Rattle.types.proofs.Once.{one-outcome}
+use Rattle.deltas.specs.declared.RowsApplied.{RowsApplied}
+use Rattle.orderbook.specs.Apply.{Change}
 use Rattle.orderbook.proofs.Kept.{one-change}
 use Rattle.orderbook.proofs.OrderBook as B
-use Rattle.orderbook.proofs.lent as L
-use Rattle.single.specs.One.{One, one}
+use Rattle.orderbook.proofs.rows as R
+use Rattle.single.specs.One.{One, OneWith, one}
+use Rattle.single.specs.Rows.{Rows, bookOfRows, rowsIn, countsIn}
 
 -- the record
 module _ where
@@ -28,145 +33,22 @@ module _ where
   pub remove-all : One B.remove_all.Reads.Learnt
   remove-all κs a s t = one-change _
 
-  pub apply-delta-over : One L.apply_delta_over.Reads.Learnt
-  apply-delta-over κs a s t = one-change _
+-- what the rows and the counts make, and the outcome's reply
+abbrev made : Rows → RowsApplied → Change
+made w r = record { book = bookOfRows w (r .counts); reply = replyOfOutcome (r .outcome) }
 
--- the best levels
+-- one answer, and one content of the rows
+one-made : (d : Change) (v w : Rows) (x y : RowsApplied) → made v x ≡ d → made w y ≡ d → (x ≡ y) × (v ≡ w)
+one-made d v w x y p q =
+    let e : made v x ≡ made w y = p ∙ sym q in
+    let o : x .outcome ≡ y .outcome = one-outcome (d .reply) (x .outcome) (y .outcome) (ap (λ (c : Change). c .reply) p) (ap (λ (c : Change). c .reply) q) in
+    let n : x .counts ≡ y .counts = ap (λ (c : Change). countsIn (c .book)) e in
+    (λ i. record { counts = n i; outcome = o i }, ap (λ (c : Change). rowsIn (c .book)) e)
+
+-- a book that is lent as its rows: the test, and a delta with the four rows after it
 module _ where
-  pub best : One B.best.Reads.Learnt
-  best κs a s t = one-level _
+  pub rows-is-book : One R.is_book.Reads.Learnt
+  rows-is-book κs a s t x y p q = one _ x y (p .0) (q .0)
 
-  pub best-bid : One B.best_bid.Reads.Learnt
-  best-bid κs a s t = one-level _
-
-  pub best-ask : One B.best_ask.Reads.Learnt
-  best-ask κs a s t = one-level _
-
-  pub best-price : One B.best_price.Reads.Learnt
-  best-price κs a s t = one-number _
-
-  pub best-bid-price : One B.best_bid_price.Reads.Learnt
-  best-bid-price κs a s t = one-number _
-
-  pub best-ask-price : One B.best_ask_price.Reads.Learnt
-  best-ask-price κs a s t = one-number _
-
-  pub best-qty : One B.best_qty.Reads.Learnt
-  best-qty κs a s t = one-number _
-
-  pub best-bid-qty : One B.best_bid_qty.Reads.Learnt
-  best-bid-qty κs a s t = one-number _
-
-  pub best-ask-qty : One B.best_ask_qty.Reads.Learnt
-  best-ask-qty κs a s t = one-number _
-
-  pub best-quote : One B.best_quote.Reads.Learnt
-  best-quote κs a s t = one-quote _
-
-  pub spread : One B.spread.Reads.Learnt
-  spread κs a s t = one-number _
-
-  pub mid-price : One B.mid_price.Reads.Learnt
-  mid-price κs a s t = one-ratio _
-
-  pub spread-pct : One B.spread_pct.Reads.Learnt
-  spread-pct κs a s t = one-ratio _
-
-  pub spread-bps : One B.spread_bps.Reads.Learnt
-  spread-bps κs a s t = one-ratio _
-
-  pub weighted-mid : One B.weighted_mid.Reads.Learnt
-  weighted-mid κs a s t = one-ratio _
-
-  pub weighted-mid-price : One B.weighted_mid_price.Reads.Learnt
-  weighted-mid-price κs a s t = one-ratio _
-
-  pub is-crossed : One B.is_crossed.Reads.Learnt
-  is-crossed κs a s t = one-flag _
-
--- counts and quantities
-module _ where
-  pub level-count : One B.level_count.Reads.Learnt
-  level-count κs a s t = one-number _
-
-  pub bid-count : One B.bid_count.Reads.Learnt
-  bid-count κs a s t = one-number _
-
-  pub ask-count : One B.ask_count.Reads.Learnt
-  ask-count κs a s t = one-number _
-
-  pub total-levels : One B.total_levels.Reads.Learnt
-  total-levels κs a s t = one-number _
-
-  pub sequence : One B.sequence.Reads.Learnt
-  sequence κs a s t = one-number _
-
-  pub is-empty : One B.is_empty.Reads.Learnt
-  is-empty κs a s t = one-flag _
-
-  pub depth-at : One B.depth_at.Reads.Learnt
-  depth-at κs a s t = one-number _
-
-  pub has-price : One B.has_price.Reads.Learnt
-  has-price κs a s t = one-flag _
-
-  pub cumulative-depth : One B.cumulative_depth.Reads.Learnt
-  cumulative-depth κs a s t = one-number _
-
-  pub tick-size : One B.tick_size.Reads.Learnt
-  tick-size κs a s t = one-number _
-
-  pub total-volume : One B.total_volume.Reads.Learnt
-  total-volume κs a s t = one-number _
-
-  pub total-bid-volume : One B.total_bid_volume.Reads.Learnt
-  total-bid-volume κs a s t = one-number _
-
-  pub total-ask-volume : One B.total_ask_volume.Reads.Learnt
-  total-ask-volume κs a s t = one-number _
-
-  pub total-bid-depth : One B.total_bid_depth.Reads.Learnt
-  total-bid-depth κs a s t = one-number _
-
-  pub total-ask-depth : One B.total_ask_depth.Reads.Learnt
-  total-ask-depth κs a s t = one-number _
-
-  pub cumulative-qty : One B.cumulative_qty.Reads.Learnt
-  cumulative-qty κs a s t = one-number _
-
-  pub cumulative-bid-qty : One B.cumulative_bid_qty.Reads.Learnt
-  cumulative-bid-qty κs a s t = one-number _
-
-  pub cumulative-ask-qty : One B.cumulative_ask_qty.Reads.Learnt
-  cumulative-ask-qty κs a s t = one-number _
-
--- ratios of the sides' quantities
-module _ where
-  pub imbalance : One B.imbalance.Reads.Learnt
-  imbalance κs a s t = one-ratio _
-
-  pub depth-imbalance : One B.depth_imbalance.Reads.Learnt
-  depth-imbalance κs a s t = one-ratio _
-
-  pub depth-ratio : One B.depth_ratio.Reads.Learnt
-  depth-ratio κs a s t = one-ratio _
-
-  pub bid-ask-ratio : One B.bid_ask_ratio.Reads.Learnt
-  bid-ask-ratio κs a s t = one-ratio _
-
-  pub ask-bid-ratio : One B.ask_bid_ratio.Reads.Learnt
-  ask-bid-ratio κs a s t = one-ratio _
-
-  pub bid-depth-skew : One B.bid_depth_skew.Reads.Learnt
-  bid-depth-skew κs a s t = one-ratio _
-
--- the price of trading a target
-module _ where
-  pub vwap-for-qty : One B.vwap_for_qty.Reads.Learnt
-  vwap-for-qty κs a s t = one-ratio _
-
-  pub price-impact : One B.price_impact.Reads.Learnt
-  price-impact κs a s t = one-ratio _
-
-  pub price-at-volume : One B.price_at_volume.Reads.Learnt
-  price-at-volume κs a s t = one-number _
+  pub rows-apply-delta : OneWith R.apply_delta.Reads.Learnt {X = Rows} (λ κs s. (now (s .0), now (s .1 .0), now (s .1 .1 .0), now (s .1 .1 .1 .0)))
+  rows-apply-delta κs a s t x y = one-made _ _ _ x y

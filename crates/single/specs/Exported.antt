@@ -1,20 +1,49 @@
 -- The calls of crate exports.
+use Prim.Native.Nat.{ℕ}
 use mathlib.Core.Path.{_≡_, ap, sym, _∙_}
+use mathlib.Core.List.{List}
 use denote.Ref.{now}
-use Rattle.orderbook.specs.LentRows.{bookAt}
+use Rattle.types.specs.Written.{Left}
+use Rattle.told.specs.declared.Told.{Told}
 use Rattle.exports.specs.declared.BookTold.{BookTold}
 use Rattle.exports.specs.declared.CountsTold.{CountsTold}
+use Rattle.exports.specs.declared.TurnTold.{TurnTold}
+use Rattle.exports.specs.Receivers.{HeldTold}
 use Rattle.exports.proofs.book as B
-use Rattle.exports.proofs.inplace as I
-use Rattle.exports.proofs.listing as D
 use Rattle.exports.proofs.ledger as P
 use Rattle.exports.proofs.feed as F
 use Rattle.exports.proofs.receiving as R
 use Rattle.single.specs.One.{One, OneWith, one}
-use Rattle.single.specs.Depths.{one-part}
-use Rattle.single.specs.InPlace.{Rows, rowsIn, countsIn}
+use Rattle.single.specs.Rows.{Rows, bookOfRows, rowsIn, countsIn}
 
--- the book
+-- an answer in numbers, and the whole of the lent memory
+one-left : (d : Left Told) (x y : Told) (m n : List ℕ) → record { answer = x; memory = m } ≡ d → record { answer = y; memory = n } ≡ d → (x ≡ y) × (m ≡ n)
+one-left d x y m n p q = let e = p ∙ sym q in (ap (λ (u : Left Told). u .answer) e, ap (λ (u : Left Told). u .memory) e)
+
+-- a book that is lent as its rows, after a change
+abbrev made : Rows → CountsTold → BookTold
+made w r = record { book = bookOfRows w (r .counts); told = r .told }
+
+one-made : (d : BookTold) (v w : Rows) (x y : CountsTold) → made v x ≡ d → made w y ≡ d → (x ≡ y) × (v ≡ w)
+one-made d v w x y p q =
+    let e : made v x ≡ made w y = p ∙ sym q in
+    let n : x .counts ≡ y .counts = ap (λ (b : BookTold). countsIn (b .book)) e in
+    let t : x .told ≡ y .told = ap (λ (b : BookTold). b .told) e in
+    (λ i. record { counts = n i; told = t i }, ap (λ (b : BookTold). rowsIn (b .book)) e)
+
+-- a receiver that is lent as its rows, after a line
+abbrev turned : Rows → TurnTold → HeldTold
+turned w r = record { receiver = record { state = r .state; book = bookOfRows w (r .counts) }; told = r .told }
+
+one-turned : (d : HeldTold) (v w : Rows) (x y : TurnTold) → turned v x ≡ d → turned w y ≡ d → (x ≡ y) × (v ≡ w)
+one-turned d v w x y p q =
+    let e : turned v x ≡ turned w y = p ∙ sym q in
+    let m : x .state ≡ y .state = ap (λ (h : HeldTold). h .receiver .state) e in
+    let n : x .counts ≡ y .counts = ap (λ (h : HeldTold). countsIn (h .receiver .book)) e in
+    let t : x .told ≡ y .told = ap (λ (h : HeldTold). h .told) e in
+    (λ i. record { state = m i; counts = n i; told = t i }, ap (λ (h : HeldTold). rowsIn (h .receiver .book)) e)
+
+-- the book: of a delta the four rows too, and of the writer the whole memory, which is the last parameter
 module _ where
   pub wermazul-book : One B.wermazul_book.Reads.Learnt
   wermazul-book κs a s t = one _
@@ -22,8 +51,8 @@ module _ where
   pub wermazul-is-book : One B.wermazul_is_book.Reads.Learnt
   wermazul-is-book κs a s t = one _
 
-  pub wermazul-apply-delta : One B.wermazul_apply_delta.Reads.Learnt
-  wermazul-apply-delta κs a s t = one _
+  pub wermazul-apply-delta : OneWith B.wermazul_apply_delta.Reads.Learnt {X = Rows} (λ κs s. (now (s .0), now (s .1 .0), now (s .1 .1 .0), now (s .1 .1 .1 .0)))
+  wermazul-apply-delta κs a s t x y = one-made _ _ _ x y
 
   pub wermazul-clear : One B.wermazul_clear.Reads.Learnt
   wermazul-clear κs a s t = one _
@@ -34,33 +63,11 @@ module _ where
   pub wermazul-ask : One B.wermazul_ask.Reads.Learnt
   wermazul-ask κs a s t = one _
 
--- what the rows and the counts make, and the answer
-abbrev made : Rows → CountsTold → BookTold
-made w r = record { book = bookAt (w .0) (w .1) (w .2) (w .3) (r .counts); told = r .told }
-
--- the counts of a book, and the answer
-abbrev besideIn : BookTold → CountsTold
-besideIn b = record { counts = countsIn (b .book); told = b .told }
-
--- one answer, and one content of the rows
-one-made : (d : BookTold) (v w : Rows) (x y : CountsTold) → made v x ≡ d → made w y ≡ d → (x ≡ y) × (v ≡ w)
-one-made d v w x y p q = let e : made v x ≡ made w y = p ∙ sym q in (ap besideIn e, ap (λ (b : BookTold). rowsIn (b .book)) e)
-
--- a book lent as its rows
-module _ where
-  pub wermazul-apply-delta-in-place : OneWith I.wermazul_apply_delta_in_place.Reads.Learnt {X = Rows} (λ κs s. (now (s .0), now (s .1 .0), now (s .1 .1 .0), now (s .1 .1 .1 .0)))
-  wermazul-apply-delta-in-place κs a s t x y = one-made _ _ _ x y
-
-  pub wermazul-walk-in-place : One I.wermazul_walk_in_place.Reads.Learnt
-  wermazul-walk-in-place κs a s t = one _
-
--- the depth calls: of the writer the answer and the whole memory, which is the last parameter
-module _ where
-  pub wermazul-places : One D.wermazul_places.Reads.Learnt
+  pub wermazul-places : One B.wermazul_places.Reads.Learnt
   wermazul-places κs a s t = one _
 
-  pub wermazul-list : OneWith D.wermazul_list.Reads.Learnt (λ κs s. now (s .1 .1 .1 .1 .1 .0))
-  wermazul-list κs a s t x y p q = one-part (p .answer, p .content) (q .answer, q .content)
+  pub wermazul-list : OneWith B.wermazul_list.Reads.Learnt (λ κs s. now (s .1 .1 .1 .1 .1 .1 .1 .1 .1 .0))
+  wermazul-list κs a s t x y = one-left _ x y _ _
 
 -- the ledger
 module _ where
@@ -82,7 +89,7 @@ module _ where
   pub wermazul-worth : One P.wermazul_worth.Reads.Learnt
   wermazul-worth κs a s t = one _
 
--- the lines of the feed: of the writers the answer and the whole memory
+-- the lines of the feed: of the writers the whole memory too
 module _ where
   pub wermazul-line-kind : One F.wermazul_line_kind.Reads.Learnt
   wermazul-line-kind κs a s t = one _
@@ -94,18 +101,18 @@ module _ where
   wermazul-line-end κs a s t = one _
 
   pub wermazul-write-delta : OneWith F.wermazul_write_delta.Reads.Learnt (λ κs s. now (s .1 .1 .1 .1 .1 .0))
-  wermazul-write-delta κs a s t x y p q = one-part (p .answer, p .content) (q .answer, q .content)
+  wermazul-write-delta κs a s t x y = one-left _ x y _ _
 
-  pub wermazul-write-snapshot : OneWith F.wermazul_write_snapshot.Reads.Learnt (λ κs s. now (s .1 .0))
-  wermazul-write-snapshot κs a s t x y p q = one-part (p .answer, p .content) (q .answer, q .content)
+  pub wermazul-write-snapshot : OneWith F.wermazul_write_snapshot.Reads.Learnt (λ κs s. now (s .1 .1 .1 .1 .1 .0))
+  wermazul-write-snapshot κs a s t x y = one-left _ x y _ _
 
 -- the receiver
 module _ where
   pub wermazul-receiver : One R.wermazul_receiver.Reads.Learnt
   wermazul-receiver κs a s t = one _
 
-  pub wermazul-take-line : One R.wermazul_take_line.Reads.Learnt
-  wermazul-take-line κs a s t = one _
+  pub wermazul-take-line : OneWith R.wermazul_take_line.Reads.Learnt {X = Rows} (λ κs s. (now (s .0), now (s .1 .0), now (s .1 .1 .0), now (s .1 .1 .1 .0)))
+  wermazul-take-line κs a s t x y = one-turned _ _ _ x y
 
   pub wermazul-receiver-ask : One R.wermazul_receiver_ask.Reads.Learnt
   wermazul-receiver-ask κs a s t = one _
@@ -113,5 +120,5 @@ module _ where
   pub wermazul-receiver-places : One R.wermazul_receiver_places.Reads.Learnt
   wermazul-receiver-places κs a s t = one _
 
-  pub wermazul-receiver-list : OneWith R.wermazul_receiver_list.Reads.Learnt (λ κs s. now (s .1 .1 .1 .1 .1 .0))
-  wermazul-receiver-list κs a s t x y p q = one-part (p .answer, p .content) (q .answer, q .content)
+  pub wermazul-receiver-list : OneWith R.wermazul_receiver_list.Reads.Learnt (λ κs s. now (s .1 .1 .1 .1 .1 .1 .1 .1 .1 .1 .0))
+  wermazul-receiver-list κs a s t x y = one-left _ x y _ _

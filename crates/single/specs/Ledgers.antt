@@ -1,7 +1,8 @@
--- The calls of crate position.
+-- The calls of crates position and valuation.
 use Rattle.types.proofs.Once.{one-flag, one-amount}
 use Rattle.position.proofs.Once.{one-change}
 use Rattle.position.proofs.PositionLedger as P
+use Rattle.valuation.proofs as W
 use Rattle.single.specs.One.{One, one}
 
 -- the record, and its changes: the ledger and the outcome
@@ -20,17 +21,17 @@ module _ where
 
 -- what it is worth
 module _ where
-  pub checked-unrealized-pnl : One P.checked_unrealized_pnl.Reads.Learnt
+  pub checked-unrealized-pnl : One W.checked_unrealized_pnl.Reads.Learnt
   checked-unrealized-pnl κs a s t = one-amount _
 
-  pub unrealized-pnl-total : One P.unrealized_pnl_total.Reads.Learnt
+  pub unrealized-pnl-total : One W.unrealized_pnl_total.Reads.Learnt
   unrealized-pnl-total κs a s t = one-amount _
 
-  pub net-liquidation-value : One P.net_liquidation_value.Reads.Learnt
+  pub net-liquidation-value : One W.net_liquidation_value.Reads.Learnt
   net-liquidation-value κs a s t = one-amount _
 
-  pub net-market-exposure : One P.net_market_exposure.Reads.Learnt
+  pub net-market-exposure : One W.net_market_exposure.Reads.Learnt
   net-market-exposure κs a s t = one-amount _
 
-  pub delta-neutral-check : One P.delta_neutral_check.Reads.Learnt
+  pub delta-neutral-check : One W.delta_neutral_check.Reads.Learnt
   delta-neutral-check κs a s t = one-flag _

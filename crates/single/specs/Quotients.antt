@@ -1,12 +1,9 @@
--- The calls of crate quotient.
+-- The call of crate quotient.
 use Rattle.quotient.proofs as C
 use Rattle.quotient.proofs.Once.{one-ratio}
-use Rattle.single.specs.One.{One, one}
+use Rattle.single.specs.One.{One}
 
--- a quotient, and a quotient or a refusal
+-- a quotient or a refusal
 module _ where
-  pub quotient-over : One C.Quotient.over.Reads.Learnt
-  quotient-over κs a s t = one _
-
   pub ratio-over : One C.Ratio.over.Reads.Learnt
   ratio-over κs a s t = one-ratio _

@@ -1,7 +1,8 @@
--- `book::wermazul_apply_delta` meets its contract: the book takes the delta if its numbers name a side and an action.
-use mathlib.Core.Path.{sym, ap, _∙_}
+-- `book::wermazul_apply_delta` meets its contract: the rows take the delta that the numbers name.
+use mathlib.Core.Path.{ap, _∙_}
 use borrow.Author.Needs.{needs}
 use Rattle.exports.specs.Books.{bookTold, appliedBy}
+use Rattle.exports.proofs.Named.{changed, unchanged}
 use Rattle.exports.proofs.book.wermazul_apply_delta.Statement.{statement}
 use Rattle.exports.proofs.book.wermazul_apply_delta.Tie as tie
 
@@ -11,9 +12,15 @@ wermazul-apply-delta-spec =
     tie.close
     (tie.spec
     (λ c κs. search needs)
+    (λ c. search needs)
     (λ c κs. search needs)
     (λ c κs. search needs)
+    (λ c. search needs)
     (λ c κs. search needs)
-    (λ c. c .given .ensures ∙ ap bookTold (c .before .apply-delta .ensures) ∙ rw (c .before .before .delta-of .ensures, sym (c .before .before .before .before .are-named .ensures) ∙ c .before .before .before .if1 .taken))
-    (λ c κs. search needs)
-    (λ c. rw (c .unchanged .ensures, sym (c .before .before .are-named .ensures) ∙ c .before .if1 .left)))
+    (λ c.
+    let a = c .before .before in
+    let d = a .before .before .before .before .before .before in
+    rw (c .of-outcome .ensures) (ap bookTold (a .apply-delta .ensures ∙ changed _ _ _ _ (rw (d .delta .given .1) at (d .before .before .delta-of .ensures)))))
+    (λ c.
+    let w = c .before .before .before .before .before .before in
+    rw (c .refused .ensures) (unchanged _ _ _ (w .why .given .0 .0) (rw (w .why .given .1) at (w .before .before .delta-of .ensures)))))

@@ -1,9 +1,10 @@
--- `book::wermazul_ask` meets its contract: the book answers if the numbers name a side and a question.
-use mathlib.Core.Path.{sym, _∙_}
+-- `book::wermazul_ask` meets its contract: the book answers the question that the numbers name.
+use mathlib.Core.Path.{ap, _∙_}
 use borrow.Author.Needs.{needs}
-use Rattle.numbered.specs.Numbers.{valuesIn}
+use Rattle.told.specs.Numbers.{tell}
+use Rattle.questions.specs.Asked.{valuesIn}
 use Rattle.exports.specs.Books.{askedBy}
-use Rattle.exports.proofs.Refusals.{told-unnamed}
+use Rattle.exports.proofs.Named.{answered, unanswered}
 use Rattle.exports.proofs.book.wermazul_ask.Statement.{statement}
 use Rattle.exports.proofs.book.wermazul_ask.Tie as tie
 
@@ -13,10 +14,14 @@ wermazul-ask-spec =
     tie.close
     (tie.spec
     (λ c κs. search needs)
+    (λ c. search needs)
     (λ c κs. search needs)
     (λ c κs. search needs)
+    (λ c. search needs)
     (λ c κs. search needs)
-    (λ c κs. search needs)
-    (λ c. rw (c .of-answer .ensures, c .before .ask .ensures, c .before .before .question-of .ensures, c .before .before .before .side-of .ensures, sym (c .before .before .before .before .before .are-named .ensures) ∙ c .before .before .before .before .if1 .taken))
-    (λ c κs. search needs)
-    (λ c. rw (c .unnamed .ensures, sym (c .before .before .are-named .ensures) ∙ c .before .if1 .left) (told-unnamed valuesIn (c .before .before .before .args .book))))
+    (λ c.
+    let q = c .before .before .before in
+    c .told .ensures ∙ ap (tell valuesIn) (c .before .ask-at .ensures ∙ answered _ _ _ _ (rw (q .q .given .1) at (q .before .before .question-of .ensures))))
+    (λ c.
+    let w = c .before .before in
+    c .refused .ensures ∙ unanswered _ _ _ valuesIn (w .why .given .0 .0) (rw (w .why .given .1) at (w .before .before .question-of .ensures))))

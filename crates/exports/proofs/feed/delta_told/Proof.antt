@@ -1,4 +1,4 @@
--- `feed::delta_told` meets its contract: the delta's numbers.
+-- `feed::delta_told` meets its contract: the delta is told by its numbers.
 use borrow.Author.Needs.{needs}
 use Rattle.exports.proofs.feed.delta_told.Statement.{statement}
 use Rattle.exports.proofs.feed.delta_told.Tie as tie
@@ -9,4 +9,4 @@ delta-told-spec =
     (tie.spec
     (λ c κs. search needs)
     (λ c κs. search needs)
-    (λ c. rw (c .before .side-number .ensures, c .action-number .ensures)))
+    (λ c. rw (c .before .number .ensures, c .number2 .ensures)))

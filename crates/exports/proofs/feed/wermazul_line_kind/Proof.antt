@@ -1,7 +1,9 @@
--- `exports::wermazul_line_kind` meets its contract: each arm answers its frame's kind.
+-- `feed::wermazul_line_kind` meets its contract: the kind of what the line reads as.
+use mathlib.Core.Path.{ap, _∙_}
 use borrow.Author.Needs.{needs}
-use Rattle.lines.specs.Decode.{decode}
-use Rattle.exports.proofs.Frames.{told-kind}
+use Rattle.told.specs.Numbers.{tell}
+use Rattle.lines.specs.Read.{Read}
+use Rattle.exports.specs.Feeds.{kindOf}
 use Rattle.exports.proofs.feed.wermazul_line_kind.Statement.{statement}
 use Rattle.exports.proofs.feed.wermazul_line_kind.Tie as tie
 
@@ -10,9 +12,5 @@ wermazul-line-kind-spec =
     tie.close
     (tie.spec
     (λ c κs. search needs)
-    (λ c. search needs)
-    (λ c. search needs)
-    (λ c. search needs)
-    (λ c. told-kind (decode (c .before .before .before .before .args .line .now)) _ _ (c .before .before .read-frame .ensures) (c .enum-told .given .1))
-    (λ c. told-kind (decode (c .before .before .before .before .args .line .now)) _ _ (c .before .before .read-frame .ensures) (c .enum-told2 .given .1))
-    (λ c. told-kind (decode (c .before .before .before .before .args .line .now)) _ _ (c .before .before .read-frame .ensures) (c .enum-told3 .given .1)))
+    (λ c κs. search needs)
+    (λ c. c .kind-told .ensures ∙ ap (λ (x : Read). tell kindOf (x .reply)) (c .before .before .read-frame .ensures)))

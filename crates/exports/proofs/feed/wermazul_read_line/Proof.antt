@@ -1,8 +1,8 @@
 -- `feed::wermazul_read_line` meets its contract: each arm tells its frame.
-use mathlib.Core.Path.{_∙_}
+use mathlib.Core.Path.{ap, _∙_}
 use borrow.Author.Needs.{needs}
-use Rattle.lines.specs.Decode.{decode}
-use Rattle.exports.proofs.Frames.{told-line}
+use Rattle.exports.specs.Feeds.{lineTold}
+use Rattle.exports.proofs.Frames.{told-delta, told-bare}
 use Rattle.exports.proofs.feed.wermazul_read_line.Statement.{statement}
 use Rattle.exports.proofs.feed.wermazul_read_line.Tie as tie
 
@@ -11,12 +11,14 @@ wermazul-read-line-spec =
     tie.close
     (tie.spec
     (λ c κs. search needs)
-    (λ c. search needs)
     (λ c κs. search needs)
     (λ c. search needs)
     (λ c κs. search needs)
-    (λ c. search needs)
     (λ c κs. search needs)
-    (λ c. c .bare-line .ensures ∙ told-line (decode (c .before .before .before .before .before .before .args .line .now)) _ _ (c .before .before .before .before .read-frame .ensures) (c .before .enum-told .given .1))
-    (λ c. c .delta-told .ensures ∙ told-line (decode (c .before .before .before .before .before .before .before .args .line .now)) _ _ (c .before .before .before .before .before .read-frame .ensures) (c .before .before .frame .given .1))
-    (λ c. c .bare-line2 .ensures ∙ told-line (decode (c .before .before .before .before .before .before .args .line .now)) _ _ (c .before .before .before .before .read-frame .ensures) (c .before .enum-told2 .given .1)))
+    (λ c.
+    let a = c .before .before in
+    let k = a .before .before in
+    c .delta-told .ensures ∙ told-delta _ _ (k .kind-told .ensures) (a .answer .given .0 .0) (a .answer .given .1) ∙ ap lineTold (k .before .before .read-frame .ensures))
+    (λ c.
+    let k = c .before .before in
+    c .bare-line .ensures ∙ told-bare (k .before .before .read-frame .result) _ (k .kind-told .ensures) (c .before .match .keys2) ∙ ap lineTold (k .before .before .read-frame .ensures)))

@@ -1,6 +1,6 @@
--- `feed::wermazul_write_snapshot` meets its contract: what the writer answered is told.
+-- `feed::wermazul_write_snapshot` meets its contract: what the writer left is told.
 use borrow.Author.Needs.{needs}
-use Rattle.exports.proofs.Writers.{line-wrote}
+use Rattle.exports.proofs.Named.{left-told}
 use Rattle.exports.proofs.feed.wermazul_write_snapshot.Statement.{statement}
 use Rattle.exports.proofs.feed.wermazul_write_snapshot.Tie as tie
 
@@ -11,4 +11,4 @@ wermazul-write-snapshot-spec =
     (λ c κs. search needs)
     (λ c κs. search needs)
     (λ c. search needs)
-    (λ c. line-wrote _ _ _ _ (c .of-number .ensures) _ (c .before .before .before .write-snapshot .ensures)))
+    (λ c. left-told (c .before .before .before .write-snapshot-at .result) _ _ _ (c .of-number .ensures) (c .before .before .before .write-snapshot-at .ensures)))

@@ -8,4 +8,4 @@ fill-of-spec =
     tie.close
     (tie.spec
     (λ c κs. search needs)
-    (λ c. rw (c .side-of .ensures)))
+    (λ c. rw (c .of .ensures)))

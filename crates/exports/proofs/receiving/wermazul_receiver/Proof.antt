@@ -1,5 +1,7 @@
--- `receiving::wermazul_receiver` meets its contract: a new receiver.
+-- `receiving::wermazul_receiver` meets its contract: the new receiver, its state by its number.
+use mathlib.Core.Path.{ap}
 use borrow.Author.Needs.{needs}
+use Rattle.exports.specs.Receivers.{heldOf}
 use Rattle.exports.proofs.receiving.wermazul_receiver.Statement.{statement}
 use Rattle.exports.proofs.receiving.wermazul_receiver.Tie as tie
 
@@ -9,4 +11,4 @@ wermazul-receiver-spec =
     (tie.spec
     (λ c κs. search needs)
     (λ c κs. search needs)
-    (λ c. rw (c .held-of .ensures, c .before .new .ensures)))
+    (λ c. rw (c .state-number .ensures) (ap heldOf (c .before .before .new .ensures))))

@@ -1,10 +1,11 @@
--- `receiving::wermazul_receiver_ask` meets its contract: 1 by the state, then the numbers are tested, and then the receiver answers.
-use mathlib.Core.Path.{sym, _∙_}
+-- `receiving::wermazul_receiver_ask` meets its contract: 1 by the state, then the question that the numbers name.
+use mathlib.Core.Path.{ap, _∙_}
 use borrow.Author.Tests.{lt-leb, le-leb}
 use borrow.Author.Needs.{needs}
-use Rattle.numbered.specs.Numbers.{valuesIn}
+use Rattle.told.specs.Numbers.{tell}
+use Rattle.questions.specs.Asked.{valuesIn}
 use Rattle.exports.specs.Receivers.{heldAsk}
-use Rattle.exports.proofs.Refusals.{told-unnamed}
+use Rattle.exports.proofs.Named.{answered, unanswered}
 use Rattle.exports.proofs.receiving.wermazul_receiver_ask.Statement.{statement}
 use Rattle.exports.proofs.receiving.wermazul_receiver_ask.Tie as tie
 
@@ -16,17 +17,17 @@ wermazul-receiver-ask-spec =
     (λ c κs. search needs)
     (λ c. rw (c .of-refusal .ensures, lt-leb _ _ (c .before .if1 .taken)))
     (λ c κs. search needs)
+    (λ c. search needs)
     (λ c κs. search needs)
     (λ c κs. search needs)
     (λ c κs. search needs)
-    (λ c κs. search needs)
-    (λ c κs. search needs)
-    (λ c.
-    let w = c .before .before in
-    let d = w .before .before in
-    rw (c .of-answer .ensures, c .before .ask .ensures, w .question-of .ensures, w .before .side-of .ensures, d .receiver-of .ensures, le-leb _ _ (d .before .before .before .if1 .left), sym (d .before .before .are-named .ensures) ∙ d .before .if2 .taken))
+    (λ c. search needs)
     (λ c κs. search needs)
     (λ c.
+    let q = c .before .before .before .before in
+    let n = q .before .before in
+    rw (le-leb _ _ (n .before .if1 .left), ← c .before .before .state-of .ensures) (c .told .ensures ∙ ap (tell valuesIn) (c .before .ask-at .ensures ∙ answered _ _ _ _ (rw (q .q .given .1) at (n .question-of .ensures)))))
+    (λ c.
     let w = c .before .before in
-    let d = w .before .before in
-    rw (c .unnamed .ensures, le-leb _ _ (w .before .if1 .left), sym (w .are-named .ensures) ∙ c .before .if2 .left) (told-unnamed valuesIn (d .before .args .receiver .book))))
+    let n = w .before .before in
+    rw (le-leb _ _ (n .before .if1 .left)) (c .refused .ensures ∙ unanswered _ _ _ valuesIn (w .why .given .0 .0) (rw (w .why .given .1) at (n .question-of .ensures)))))

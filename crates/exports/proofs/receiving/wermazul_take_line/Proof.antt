@@ -1,4 +1,4 @@
--- `receiving::wermazul_take_line` meets its contract: a receiver takes the line, and another record comes back as it was.
+-- `receiving::wermazul_take_line` meets its contract: a receiver takes the line, and another record stays as it was.
 use mathlib.Core.Path.{ap, _∙_}
 use borrow.Author.Tests.{lt-leb, le-leb}
 use borrow.Author.Needs.{needs}
@@ -17,4 +17,6 @@ wermazul-take-line-spec =
     (λ c κs. search needs)
     (λ c κs. search needs)
     (λ c κs. search needs)
-    (λ c. rw (c .before .held-of .ensures, c .of-outcome .ensures) (ap heldTold (c .before .before .take-line .ensures) ∙ rw (c .before .before .before .receiver-of .ensures, le-leb _ _ (c .before .before .before .before .if1 .left)))))
+    (λ c.
+    let t = c .before .before .before in
+    rw (c .of-outcome .ensures, c .before .state-number .ensures) (ap heldTold (t .take-line .ensures) ∙ rw (t .before .state-of .ensures, le-leb _ _ (t .before .before .before .before .before .before .if1 .left)))))

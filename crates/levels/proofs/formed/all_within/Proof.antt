@@ -8,7 +8,7 @@ use borrow.Author.Needs.{needs}
 use lib.ListN.{length, take, drop, getD}
 use Rattle.types.specs.Limits.{within}
 use Rattle.levels.specs.Formed.{every}
-use Rattle.levels.proofs.Flags.{passed, failed, flag-off, flag-on, flag-end}
+use Rattle.types.proofs.Booleans.{passed, failed, flag-off, flag-on, flag-end}
 use Rattle.levels.proofs.Rows.{every-turn, every-end}
 use Rattle.levels.proofs.formed.all_within.Statement.{statement}
 use Rattle.levels.proofs.formed.all_within.Tie as tie

@@ -9,7 +9,7 @@ use Rattle.types.specs.Limits.{within, maxPrice}
 use Rattle.levels.specs.Order.{inOrder}
 use Rattle.levels.specs.Formed.{every}
 use Rattle.levels.proofs.Ends.{ends-row}
-use Rattle.levels.proofs.Flags.{passed, failed}
+use Rattle.types.proofs.Booleans.{passed, failed}
 use Rattle.levels.proofs.Rows.{every-end}
 use Rattle.levels.proofs.formed.prices_fit.Statement.{statement}
 use Rattle.levels.proofs.formed.prices_fit.Tie as tie

@@ -7,7 +7,7 @@ use lib.ListN.{take}
 use lib.Seq.{take-all}
 use Rattle.types.specs.Limits.{maxLevels, maxQuantity}
 use Rattle.levels.proofs.Ends.{whole-row}
-use Rattle.levels.proofs.Flags.{passed, failed}
+use Rattle.types.proofs.Booleans.{passed, failed}
 use Rattle.levels.proofs.formed.quantities_fit.Statement.{statement}
 use Rattle.levels.proofs.formed.quantities_fit.Tie as tie
 

@@ -9,7 +9,7 @@ use Rattle.types.specs.Limits.{within, maxLevels, maxPrice, maxQuantity}
 use Rattle.levels.specs.Order.{inOrder}
 use Rattle.levels.specs.Formed.{every, zeros, wellFormed}
 use Rattle.levels.specs.Table.{rows}
-use Rattle.levels.proofs.Flags.{passed, failed}
+use Rattle.types.proofs.Booleans.{passed, failed}
 use Rattle.levels.proofs.Tables.{Sized, by-rows, too-many}
 use Rattle.levels.proofs.formed.well_formed.Statement.{statement}
 use Rattle.levels.proofs.formed.well_formed.Tie as tie

@@ -13,7 +13,7 @@ returns c =
     let a = c .before .before .before .before .before .before .before .before .before .args in
     let p = c .before .before .before .before .before .before .put3 in
     let q = c .before .before .put in
-    join (be 1 2 (be 8 (a .sequence) (be 1 (a .bids) []))) (be 1 (a .asks) []) 0 (now (a .out)) (p .last .0) (q .last .0) (p .result) (q .result)
+    join (be 1 2 (be 8 (a .counts .sequence) (be 1 (a .counts .bids) []))) (be 1 (a .counts .asks) []) 0 (now (a .out)) (p .last .0) (q .last .0) (p .result) (q .result)
     (p .ensures) (q .ensures) (omega arith)
 
 pub put-counts-spec : {M : Type 1} → statement M

@@ -8,7 +8,7 @@ use lib.ListN.{length}
 use Rattle.levels.specs.Table.{levels, rows}
 use Rattle.wire.specs.Wire.{Part}
 use Rattle.wire.proofs.Places.{no-part}
-use Rattle.lines.specs.Frames.{levelBytes}
+use Rattle.frames.specs.Frames.{levelBytes}
 use Rattle.lines.proofs.Rows.{level-step, rows-length, side-sum}
 use Rattle.lines.proofs.snapshot.put_levels.Statement.{statement}
 use Rattle.lines.proofs.snapshot.put_levels.Tie as tie

@@ -7,7 +7,7 @@ use denote.Ref.{now}
 use lib.ListN.{drop}
 use Rattle.levels.specs.Table.{table}
 use Rattle.wire.specs.Wire.{field}
-use Rattle.lines.specs.Decode.{levelsIn}
+use Rattle.frames.specs.Decode.{levelsIn}
 use Rattle.lines.proofs.snapshot.read_book.Statement.{statement}
 use Rattle.lines.proofs.snapshot.read_book.Tie as tie
 

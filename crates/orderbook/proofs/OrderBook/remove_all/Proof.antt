@@ -2,7 +2,7 @@
 use mathlib.Core.Path.{_≡_}
 use mathlib.Core.Bool.{true}
 use borrow.Author.Needs.{needs}
-use Rattle.levels.proofs.Flags.{passed, failed}
+use Rattle.types.proofs.Booleans.{passed, failed}
 use Rattle.orderbook.specs.Book.{isBook}
 use Rattle.orderbook.specs.Apply.{sideCleared}
 use Rattle.orderbook.proofs.OrderBook.remove_all.Statement.{statement}

@@ -3,7 +3,7 @@ use mathlib.Core.Path.{_≡_, sym, _∙_}
 use mathlib.Core.Bool.{true}
 use borrow.Author.Needs.{needs}
 use Rattle.position.specs.Ledger.{isLedger, booked}
-use Rattle.position.proofs.Holdings.{fill-in}
+use Rattle.holding.proofs.Holdings.{fill-in}
 use Rattle.position.proofs.PositionLedger.apply_fill.Statement.{statement}
 use Rattle.position.proofs.PositionLedger.apply_fill.Tie as tie
 

@@ -1,12 +1,16 @@
 -- `PositionLedger::settle`: every total before and after the fill is far below 2^63, and each answer is what the tests so far say.
+use Prim.Native.Nat.{ℕ}
 use mathlib.Core.Path.{_≡_, _∙_}
+use mathlib.Core.List.{List}
 use native.Mathlib.Omega.{arith}
 use borrow.Author.Needs.{needs}
-use lib.IntN.{_+ℤ_}
+use lib.ListN.{set}
 use Rattle.amount.specs.Whole.{amount}
-use Rattle.position.specs.Holding.{after}
-use Rattle.position.specs.Ledger.{at, cashAfter, isShort, isBearable, filled, settled}
-use Rattle.position.proofs.Ledgers.{ledger-in, held-in, charge-size}
+use Rattle.amount.specs.declared.Amount.{Amount}
+use Rattle.holding.specs.declared.Position.{Position}
+use Rattle.position.specs.Ledger.{changed, cashAfter, isShort, bearsFill, filled, settled}
+use Rattle.position.proofs.Ledgers.{ledger-in, held-in}
+use Rattle.holding.proofs.Holdings.{charge-size}
 use Rattle.position.proofs.PositionLedger.settle.Statement.{statement}
 use Rattle.position.proofs.PositionLedger.settle.Tie as tie
 
@@ -40,25 +44,24 @@ bearable-is : (c : tie.After-is-bearable) →
     let s = c .before .before .before .before .before .before .before .before .before .before .before in
     let l = s .args .t1 in
     let f = s .args .fill in
-    c .is-bearable .result ≡ isBearable (cashAfter (l .cash .value) f) (l .commission .value +ℤ f .commission .value) (after (at l (f .symbol)) f)
+    c .is-bearable .result ≡ bearsFill l f
 bearable-is c =
     let a = c .before .before .before .before in
     c .is-bearable .ensures ∙ rw (cash-is (a .before .before .before .before), a .add .ensures, c .before .after-fill .ensures)
+
+-- a ledger by its parts
+same-parts : {a b k m : Amount} {p q : Position} (ps : List Position) (i : ℕ) → a ≡ b → k ≡ m → p ≡ q
+    → changed (record { cash = a; commission = k; positions = set ps i p }) ≡ changed (record { cash = b; commission = m; positions = set ps i q })
+same-parts ps i e f g = rw (e, f, g)
 
 returns-2 : tie.Need-returns-2
 unfolding settled filled
 returns-2 c =
     let a = c .before .before .before .before .before in
     let d = a .before .before in
-    rw (
-      ← short-is (d .before),
-      d .if1 .left,
-      ← bearable-is (c .before),
-      c .if2 .taken,
-      cash-is (d .before .before),
-      a .add .ensures,
-      c .before .before .after-fill .ensures,
-    )
+    let s = d .before .before .before .before .before in
+    rw (← short-is (d .before), d .if1 .left, ← bearable-is (c .before), c .if2 .taken)
+    (same-parts (s .args .t1 .positions) (s .args .fill .symbol) (cash-is (d .before .before)) (a .add .ensures) (c .before .before .after-fill .ensures))
 
 returns-3 : tie.Need-returns-3
 unfolding settled

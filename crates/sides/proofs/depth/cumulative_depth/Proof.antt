@@ -1,6 +1,6 @@
 -- `sides::depth::cumulative_depth` meets its contract: the walk's total, for a price within the limits.
 use borrow.Author.Needs.{needs}
-use Rattle.levels.proofs.Flags.{passed, failed}
+use Rattle.types.proofs.Booleans.{passed, failed}
 use Rattle.sides.proofs.depth.cumulative_depth.Statement.{statement}
 use Rattle.sides.proofs.depth.cumulative_depth.Tie as tie
 
@@ -10,5 +10,5 @@ cumulative-depth-spec =
     (tie.spec
     (λ c κs. search needs)
     (λ c. rw (failed (c .before .is-price .ensures) (c .if1 .taken)))
-    (λ c κs. search needs)
+    (λ c κs. let w = c .before .before .pre in (w .long-prices, w .long-quantities, w .few))
     (λ c. rw (passed (c .before .before .is-price .ensures) (c .before .if1 .left), c .total-up-to .ensures)))

@@ -3,8 +3,8 @@ use Prim.Native.Nat.{_<_}
 use mathlib.Core.Path.{sym, _∙_}
 use native.Mathlib.Omega.{arith}
 use borrow.Author.Needs.{needs}
-use Rattle.levels.proofs.Flags.{passed, failed}
-use Rattle.sides.proofs.Finds.{found-in, found-depth, absent-depth}
+use Rattle.types.proofs.Booleans.{passed, failed}
+use Rattle.sides.proofs.Finds.{lent, found-in, found-depth, absent-depth}
 use Rattle.sides.proofs.depth.depth_at.Statement.{statement}
 use Rattle.sides.proofs.depth.depth_at.Tie as tie
 
@@ -12,7 +12,7 @@ inside : (c : tie.After-known-told) → c .before .place .given .0 .0 < 128
 inside c =
     let f = c .before .before .before in
     let s = f .before .before .before in
-    omega (arith, s .pre .2, found-in _ (s .args .prices .now) (s .args .n) _ _ (sym (f .find .ensures) ∙ c .before .place .given .1))
+    omega (arith, s .pre .0 .few, found-in _ (s .args .prices .now) (s .args .n) _ _ (sym (f .find .ensures) ∙ c .before .place .given .1))
 
 pub depth-at-spec : {M : Type 1} → statement M
 depth-at-spec =
@@ -20,7 +20,7 @@ depth-at-spec =
     (tie.spec
     (λ c κs. search needs)
     (λ c. rw (failed (c .before .is-price .ensures) (c .if1 .taken)))
-    (λ c κs. search needs)
+    (λ c κs. let w = c .before .before .pre in (w .0 .long-prices, w .0 .few, w .1))
     (λ c. search needs)
     (λ c. omega (arith, inside c))
     inside
@@ -31,9 +31,9 @@ depth-at-spec =
     let f = k .before .before .before in
     let l = f .before in
     let w = l .before .before .pre in
-    rw (c .number .ensures, passed (l .before .is-price .ensures) (l .if1 .left), found-depth _ _ _ _ (w .0, w .1, w .2) _ _ (sym (f .find .ensures) ∙ k .before .place .given .1)))
+    rw (c .number .ensures, passed (l .before .is-price .ensures) (l .if1 .left), found-depth _ _ _ _ (lent (w .0)) _ _ (sym (f .find .ensures) ∙ k .before .place .given .1)))
     (λ c.
     let f = c .before .before in
     let l = f .before in
     let w = l .before .before .pre in
-    rw (passed (l .before .is-price .ensures) (l .if1 .left), absent-depth _ _ _ _ (w .0, w .1, w .2) _ _ (w .3) (sym (f .find .ensures) ∙ c .enum-told .given .1))))
+    rw (passed (l .before .is-price .ensures) (l .if1 .left), absent-depth _ _ _ _ (lent (w .0)) _ _ (w .1) (sym (f .find .ensures) ∙ c .enum-told .given .1))))

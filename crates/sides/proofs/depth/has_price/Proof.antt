@@ -1,8 +1,8 @@
 -- `sides::depth::has_price` meets its contract: the search finds the price exactly where a level has it.
 use mathlib.Core.Path.{sym, _∙_}
 use borrow.Author.Needs.{needs}
-use Rattle.levels.proofs.Flags.{passed, failed}
-use Rattle.sides.proofs.Finds.{found-has, absent-has}
+use Rattle.types.proofs.Booleans.{passed, failed}
+use Rattle.sides.proofs.Finds.{lent, found-has, absent-has}
 use Rattle.sides.proofs.depth.has_price.Statement.{statement}
 use Rattle.sides.proofs.depth.has_price.Tie as tie
 
@@ -12,16 +12,16 @@ has-price-spec =
     (tie.spec
     (λ c κs. search needs)
     (λ c. rw (failed (c .before .is-price .ensures) (c .if1 .taken)))
-    (λ c κs. search needs)
+    (λ c κs. let w = c .before .before .pre in (w .0 .long-prices, w .0 .few, w .1))
     (λ c. search needs)
     (λ c. search needs)
     (λ c.
     let f = c .before .before in
     let l = f .before in
     let w = l .before .before .pre in
-    rw (passed (l .before .is-price .ensures) (l .if1 .left), found-has _ _ _ _ (w .0, w .1, w .2) _ _ (sym (f .find .ensures) ∙ c .enum-told .given .1)))
+    rw (passed (l .before .is-price .ensures) (l .if1 .left), found-has _ _ _ _ (lent (w .0)) _ _ (sym (f .find .ensures) ∙ c .enum-told .given .1)))
     (λ c.
     let f = c .before .before in
     let l = f .before in
     let w = l .before .before .pre in
-    rw (passed (l .before .is-price .ensures) (l .if1 .left), absent-has _ _ _ _ (w .0, w .1, w .2) _ _ (w .3) (sym (f .find .ensures) ∙ c .enum-told2 .given .1))))
+    rw (passed (l .before .is-price .ensures) (l .if1 .left), absent-has _ _ _ _ (lent (w .0)) _ _ (w .1) (sym (f .find .ensures) ∙ c .enum-told2 .given .1))))

@@ -1,51 +1,28 @@
--- `sides::price::vwap` meets its contract: 0 over 1 for target 0, and what the one price says of any other target within the limits.
-use Prim.Native.Nat.{_≤_, _<_}
-use mathlib.Core.Path.{_≡_, sym, _∙_}
-use mathlib.Core.List.{List}
+-- `sides::price::vwap` meets its contract: 0 over 1 for target 0, and the one price for any other target within the limits.
+use mathlib.Core.Path.{_≡_}
+use mathlib.Core.Bool.{true}
 use native.Mathlib.Omega.{arith}
 use borrow.Author.Needs.{needs}
-use borrow.Author.Tests.{leb-true}
-use Rattle.types.specs.Limits.{maxQuantity}
-use Rattle.types.specs.declared.PriceLevel.{PriceLevel}
-use Rattle.levels.specs.Table.{levels, rows}
-use Rattle.levels.specs.Walk.{totalOf}
-use Rattle.levels.proofs.Flags.{passed, failed}
-use Rattle.levels.proofs.Walks.{total-rows}
-use Rattle.sides.specs.OnePrice.{one-price, no-price}
-use Rattle.sides.proofs.Prices.{vwap-limit, vwap-zero}
+use borrow.Author.Tests.{ne-eqb, leb-true}
+use Rattle.types.specs.Limits.{isQuantity}
+use Rattle.types.proofs.Booleans.{passed, failed}
+use Rattle.quotient.proofs.Overs.{over-some}
+use Rattle.sides.specs.Questions.{vwapOf}
 use Rattle.sides.proofs.price.vwap.Statement.{statement}
 use Rattle.sides.proofs.price.vwap.Tie as tie
 
--- the levels that are walked
-abbrev walked : tie.Start → List PriceLevel
-walked c = levels (rows (c .args .prices .now) (c .args .quantities .now) (c .args .n))
-
-limit : (c : tie.Else1) → c .before .before .args .target ≤ maxQuantity
-limit c = leb-true _ _ (passed (c .before .is-quantity .ensures) (c .if1 .left))
-
-some : (c : tie.Else2) → 0 < c .before .before .before .args .target
-some c = omega (arith, c .if2 .left)
-
-total : (c : tie.After-total) → c .total .result ≡ totalOf (walked (c .before .before .before .before))
-total c = let w = c .before .before .before .before .pre in c .total .ensures ∙ sym (total-rows _ (w .0, w .1, w .2))
+fits : (c : tie.Else1) → isQuantity (c .before .before .args .target) ≡ true
+fits c = passed (c .before .is-quantity .ensures) (c .if1 .left)
 
 pub vwap-spec : {M : Type 1} → statement M
+unfolding vwapOf
 vwap-spec =
     tie.close
     (tie.spec
     (λ c κs. search needs)
-    (λ c. sym (vwap-limit _ _ (failed (c .before .is-quantity .ensures) (c .if1 .taken))))
+    (λ c. rw (failed (c .before .is-quantity .ensures) (c .if1 .taken)))
     (λ c κs. search needs)
     (λ c κs. search needs)
-    (λ c. rw (c .over .ensures, c .before .of .ensures) (sym (vwap-zero _ _ (c .before .before .if2 .taken))))
-    (λ c κs. search needs)
-    (λ c.
-    let t = c .before in
-    let e = t .before in
-    sym (no-price _ (walked (e .before .before .before)) (some e) (limit (e .before)) (omega (arith, total t, c .if3 .taken)) .0))
-    (λ c κs. let e = c .before .before in let w = e .before .before .before .pre in (w .0, w .1, w .2, limit (e .before), w .3))
-    (λ c.
-    let t = c .before .before in
-    let e = t .before in
-    rw (c .price-of .ensures)
-    (sym (one-price _ (walked (e .before .before .before)) (some e) (limit (e .before)) (omega (arith, total t, c .before .if3 .left)) .0))))
+    (λ c. rw (fits (c .before .before .before), c .before .before .if2 .taken, c .over .ensures, c .before .of .ensures, over-some _ 1 (λ e. omega arith)))
+    (λ c κs. (c .before .before .before .pre, omega (arith, c .if2 .left), leb-true _ _ (fits (c .before))))
+    (λ c. rw (fits (c .before .before), ne-eqb _ _ (c .before .if2 .left), c .price-or .ensures)))

@@ -1,0 +1,5 @@
+// Runs the paper's examples and the corners of its limits: the file stdin is a list of operations, and what is printed is held to the file
+// stdout, whose answers are literal numbers.
+fn main() {
+    replaying::run();
+}

@@ -1,0 +1,5 @@
+pub mod Changes
+pub mod Edits
+pub mod Rows
+pub mod Places
+pub mod Shifts

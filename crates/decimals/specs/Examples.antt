@@ -1,0 +1,22 @@
+-- Numbers and pairs as bytes.
+use Prim.Native.Nat.{ℕ}
+use mathlib.Core.Path.{_≡_, refl}
+use mathlib.Core.List.{List, [], _∷_}
+use Rattle.decimals.specs.Decimals.{lastDigits, decimal, pair}
+
+-- "0", "10", "907"
+small : (decimal 0 ≡ 48 ∷ []) × (decimal 10 ≡ 49 ∷ 48 ∷ []) × (decimal 907 ≡ 57 ∷ 48 ∷ 55 ∷ [])
+unfolding lastDigits
+small = (refl, refl, refl)
+
+-- the largest u64 has all its 20 digits: "18446744073709551615"
+largest :
+    decimal 18446744073709551615 ≡
+    49 ∷ 56 ∷ 52 ∷ 52 ∷ 54 ∷ 55 ∷ 52 ∷ 52 ∷ 48 ∷ 55 ∷ 51 ∷ 55 ∷ 48 ∷ 57 ∷ 53 ∷ 53 ∷ 49 ∷ 54 ∷ 49 ∷ 53 ∷ []
+unfolding lastDigits
+largest = refl
+
+-- "3 14" and a line feed
+line : pair 3 14 ≡ 51 ∷ 32 ∷ 49 ∷ 52 ∷ 10 ∷ []
+unfolding pair lastDigits
+line = refl

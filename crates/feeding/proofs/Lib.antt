@@ -1,2 +1,0 @@
--- Laws of where lines end.
-pub mod Ends

@@ -1,0 +1,5 @@
+pub mod Whole
+pub mod Reading
+pub mod Writing
+pub mod Sent
+pub mod Once

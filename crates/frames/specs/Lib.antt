@@ -1,0 +1,5 @@
+pub mod Frames
+pub mod Decode
+pub mod Sent
+pub mod OneLine
+pub mod Examples

@@ -1,0 +1,128 @@
+// The frames of the feed, and a delta's line, read and written: 01, side, action, price 4, quantity 4, sequence 8, check. It is read
+// leniently, tested, written again and compared, so that what is no digit, another kind, a wrong check byte and a missing line feed need no
+// test of their own. A snapshot's line stands in `lines`.
+ghost use mathlib.Core.Path.{_≡_};
+ghost use mathlib.Core.List.{_++_};
+ghost use Prim.Native.Nat.{_≤_};
+ghost use lib.ListN.{length, drop};
+ghost use Rattle.types.specs.Answers.{replyOfNumber};
+ghost use Rattle.types.specs.Written.{written};
+ghost use Rattle.frames.specs.Frames.{delta, encode, isWhole};
+ghost use Rattle.frames.specs.Decode.{deltaIn, same, decode, deltaRead, replyOfDelta};
+ghost use Rattle.frames.specs.Sent.{asSent, deltaLine};
+use deltas::BookDelta;
+use deltas::DeltaAction;
+use types::NumberAnswer;
+use types::Refusal;
+use types::Side;
+
+// A delta, or that the line is none.
+pub enum DeltaAnswer {
+    Is(BookDelta),
+    Refused(Refusal),
+}
+
+// Whether a frame's delta is whole: a Remove's quantity must be 0.
+fn is_whole(d: BookDelta) -> bool
+    ensures { λ r. ⌜ r ≡ isWhole (delta d) ⌝ }
+{
+    let action = d.action;
+    if deltas::delta_fits(action, d.price, d.quantity) {
+        return match action {
+            DeltaAction::Set => true,
+            DeltaAction::Remove => d.quantity == 0,
+        };
+    }
+    false
+}
+
+// A delta as it is sent: a Remove's quantity is 0.
+fn as_sent(d: BookDelta) -> BookDelta
+    ensures { λ r. ⌜ r ≡ asSent d ⌝ }
+{
+    let mut sent = d;
+    let action = d.action;
+    match action {
+        DeltaAction::Set => {}
+        DeltaAction::Remove => {
+            sent.quantity = 0;
+        }
+    }
+    sent
+}
+
+// Writes a delta's line at the front of `out`.
+fn put_delta(d: BookDelta, out: &mut [u8])
+    requires { ⌜ 41 ≤ length (now out) ⌝ }
+    ensures { λ _. ⌜ now (out .exit) ≡ encode (delta d) ++ drop 41 (now (out .entry)) ⌝ }
+{
+    let side = d.side;
+    let action = d.action;
+    let sum = wire::put3(out, 0, 1, 1, 1, side.number(), 1, action.number());
+    let sum2 = wire::put3(
+        out,
+        3,
+        4,
+        d.price as u64,
+        4,
+        d.quantity as u64,
+        8,
+        d.sequence,
+    );
+    wire::finish(out, 19, sum + sum2);
+}
+
+// Writes a delta's line at the front of `out` and answers its length; 2 if a number is outside its limits, 11 if there is no room.
+pub fn write_delta(d: BookDelta, out: &mut [u8]) -> NumberAnswer
+    ensures { λ r. ⌜ record { answer = replyOfNumber r; memory = now (out .exit) } ≡ written (deltaLine d) (now (out .entry)) ⌝ }
+{
+    let action = d.action;
+    if deltas::delta_fits(action, d.price, d.quantity) {
+        if out.len() < 41 {
+            return NumberAnswer::Refused(Refusal::NoRoom);
+        }
+        put_delta(as_sent(d), out);
+        return NumberAnswer::Is(41);
+    }
+    NumberAnswer::Refused(Refusal::OutOfLimits)
+}
+
+// The numbers that stand where a delta has its own.
+fn delta_in(line: &[u8]) -> BookDelta
+    requires { ⌜ 41 ≤ length (now line) ⌝ }
+    ensures { λ r. ⌜ r ≡ deltaIn (now (line .entry)) ⌝ }
+{
+    let side = Side::of(wire::field(line, 1, 1) == 1);
+    let action = DeltaAction::of(wire::field(line, 2, 1) == 1);
+    BookDelta {
+        side,
+        price: wire::word(line, 3),
+        quantity: wire::word(line, 7),
+        action,
+        sequence: wire::field(line, 11, 8),
+    }
+}
+
+// Whether a line is this delta's.
+fn is_line_of(line: &[u8], d: BookDelta) -> bool
+    ensures { λ r. ⌜ r ≡ same (now (line .entry)) (encode (delta d)) ⌝ }
+{
+    let mut own = [0u8; 41];
+    put_delta(d, &mut own);
+    check::same(line, &own)
+}
+
+// The delta that a line is; 12 for any other line. The line has its line feed.
+pub fn read_delta(line: &[u8]) -> DeltaAnswer
+    ensures { λ r. ⌜ replyOfDelta r ≡ deltaRead (decode (now (line .entry))) ⌝ }
+{
+    if line.len() == 41 {
+        let d = delta_in(line);
+        if is_whole(d) {
+            if is_line_of(line, d) {
+                return DeltaAnswer::Is(d);
+            }
+        }
+    }
+    DeltaAnswer::Refused(Refusal::DamagedLine)
+}

@@ -1,0 +1,5 @@
+-- Laws that belong to no one function.
+pub mod Holdings
+pub mod Averages
+pub mod Stays
+pub mod Sources

@@ -1,0 +1,3 @@
+-- What only code and proofs speak of.
+pub mod Runs
+pub mod Plans

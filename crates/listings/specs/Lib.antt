@@ -1,0 +1,4 @@
+pub mod Listed
+pub mod Numbered
+pub mod Inner
+pub mod Examples

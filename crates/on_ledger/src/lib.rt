@@ -1,0 +1,121 @@
+// The operations on the ledger and the prices.
+use fields::amount;
+use fields::number;
+use fields::side;
+use fields::small;
+use holding::Fill;
+use position::Booked;
+use position::Position;
+use position::PositionLedger;
+use told::Told;
+use types::Outcome;
+use types::SYMBOLS;
+
+fn changed(b: Booked) -> PositionLedger {
+    let outcome = b.outcome;
+    output::told(Told::of_outcome(outcome));
+    b.ledger
+}
+
+// Quantity, average and realized profit of a symbol.
+fn position(ledger: PositionLedger, symbol: u32) {
+    let i = symbol as usize;
+    if i < SYMBOLS {
+        let p = ledger.positions[i];
+        let quantity = p.quantity;
+        let realized = p.realized;
+        output::amount(quantity);
+        output::value(p.average as u64);
+        output::amount(realized);
+    }
+}
+
+fn fill(line: &[u8]) -> Fill {
+    Fill {
+        symbol: small(line, 1),
+        side: side(line, 2),
+        quantity: small(line, 3),
+        price: small(line, 4),
+        commission: amount(line, 5, 6),
+    }
+}
+
+// A fill that is taken shows the position that it makes, and the cash.
+fn filled(ledger: PositionLedger, line: &[u8]) -> PositionLedger {
+    let booked = ledger.apply_fill(fill(line));
+    let outcome = booked.outcome;
+    let next = changed(booked);
+    if let Outcome::Done = outcome {
+        let cash = next.cash;
+        position(next, small(line, 1));
+        output::amount(cash);
+    }
+    next
+}
+
+fn worth(ledger: PositionLedger, prices: &[u32], line: &[u8]) {
+    output::told(
+        match number(line, 1) {
+            0 => Told::of_amount(valuation::unrealized_pnl_total(ledger, prices)),
+            1 => Told::of_amount(valuation::net_liquidation_value(ledger, prices)),
+            2 => Told::of_amount(valuation::net_market_exposure(ledger, prices)),
+            _ => Told::of_flag(valuation::delta_neutral_check(ledger, prices)),
+        },
+    );
+}
+
+// The record with another position of a symbol, which may be no ledger.
+fn with_position(mut ledger: PositionLedger, line: &[u8]) -> PositionLedger {
+    let i = small(line, 1) as usize;
+    if i < SYMBOLS {
+        ledger.positions[i] = Position {
+            quantity: amount(line, 2, 3),
+            average: small(line, 4),
+            realized: amount(line, 5, 6),
+        };
+        output::number(0);
+    } else {
+        output::put(b"?");
+    }
+    ledger
+}
+
+// Cash, commission paid, and the position of a symbol, as they stand in the record.
+fn shown(ledger: PositionLedger, symbol: u32) {
+    let cash = ledger.cash;
+    let commission = ledger.commission;
+    output::number(0);
+    output::amount(cash);
+    output::amount(commission);
+    position(ledger, symbol);
+}
+
+pub fn step(ledger: PositionLedger, prices: [u32; 32], kind: u64, line: &[u8]) -> PositionLedger {
+    match kind {
+        6 => return changed(PositionLedger::new(amount(line, 1, 2))),
+        7 => return filled(ledger, line),
+        8 => return changed(ledger.deposit(amount(line, 1, 2))),
+        9 => output::told(Told::of_amount(valuation::checked_unrealized_pnl(
+            ledger,
+            small(line, 1),
+            small(line, 2),
+        ))),
+        11 => worth(ledger, &prices, line),
+        19 => return with_position(ledger, line),
+        20 => shown(ledger, small(line, 1)),
+        _ => output::put(b"?"),
+    }
+    ledger
+}
+
+// The prices with another one of a symbol.
+pub fn price(mut prices: [u32; 32], line: &[u8]) -> [u32; 32] {
+    let symbol = small(line, 1) as usize;
+    if symbol < SYMBOLS {
+        prices[symbol] = small(line, 2);
+        output::number(0);
+    } else {
+        output::put(b"?");
+    }
+    prices
+}

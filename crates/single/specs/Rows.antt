@@ -1,0 +1,22 @@
+-- A book that is lent as its rows: what a call leaves of it is one content of the four rows and one record of counts.
+use Prim.Native.Nat.{ℕ}
+use mathlib.Core.List.{List}
+use Rattle.deltas.specs.declared.Counts.{Counts}
+use Rattle.orderbook.specs.declared.OrderBook.{OrderBook}
+use Rattle.orderbook.specs.Lent.{bookAt}
+
+-- the four rows
+abbrev pub Rows : Type 0
+Rows = List ℕ × List ℕ × List ℕ × List ℕ
+
+-- the book that they make with these counts
+abbrev pub bookOfRows : Rows → Counts → OrderBook
+bookOfRows w c = bookAt (w .0) (w .1) (w .2) (w .3) c
+
+-- the rows of a book
+abbrev pub rowsIn : OrderBook → Rows
+rowsIn b = (b .bids .prices, b .bids .quantities, b .asks .prices, b .asks .quantities)
+
+-- the counts of a book
+abbrev pub countsIn : OrderBook → Counts
+countsIn b = record { bids = b .bids .count; asks = b .asks .count; sequence = b .sequence }

@@ -1,0 +1,4 @@
+pub mod Streams
+pub mod Channel
+pub mod Reading
+pub mod Examples

@@ -1,0 +1,41 @@
+-- `all_priced`: each answer is what the tests so far say.
+use mathlib.Core.Path.{_≡_, sym, _∙_}
+use mathlib.Core.Bool.{true}
+use borrow.Author.Needs.{needs}
+use borrow.Author.Tests.{lt-ltb, le-ltb}
+use Rattle.pricing.specs.Prices.{arePrices}
+use Rattle.position.specs.Ledger.{isLedger}
+use Rattle.valuation.specs.Values.{allPriced}
+use Rattle.valuation.proofs.all_priced.Statement.{statement}
+use Rattle.valuation.proofs.all_priced.Tie as tie
+
+good : (c : tie.Then1) → isLedger (c .before .before .before .args .ledger) ≡ true
+good c = sym (c .before .is-ledger .ensures) ∙ c .if1 .taken
+
+priced : (c : tie.Then2) → arePrices (c .before .before .before .before .before .args .prices .now) ≡ true
+priced c = sym (c .before .are-prices .ensures) ∙ c .if2 .taken
+
+returns : tie.Need-returns
+unfolding allPriced
+returns c =
+    let d = c .before .before in
+    rw (good (d .before .before), priced d, ← c .before .first-open .ensures, lt-ltb _ _ (c .if3 .taken))
+
+returns-2 : tie.Need-returns-2
+unfolding allPriced
+returns-2 c =
+    let d = c .before .before in
+    rw (good (d .before .before), priced d, ← c .before .first-open .ensures, le-ltb _ _ (c .if3 .left))
+
+returns-3 : tie.Need-returns-3
+unfolding allPriced
+returns-3 c = rw (good (c .before .before), ← c .before .are-prices .ensures, c .if2 .left)
+
+returns-4 : tie.Need-returns-4
+unfolding allPriced
+returns-4 c = rw (← c .before .is-ledger .ensures, c .if1 .left)
+
+pub all-priced-spec : {M : Type 1} → statement M
+all-priced-spec =
+    tie.close
+    (tie.spec (λ c κs. search needs) (λ c κs. search needs) (λ c κs. priced c) returns returns-2 returns-3 returns-4)

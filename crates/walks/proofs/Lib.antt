@@ -1,0 +1,4 @@
+pub mod Depths
+pub mod Gaps
+pub mod Turns
+pub mod Walks
