@@ -1,8 +1,9 @@
 #!/usr/bin/env bash
 # Times the book of this library, by its Rust crate, beside the original and two plain Rust books, in one process: a million deltas, and
-# questions to the book that results. Compares all answers first. Writes the tables of docs/FIGURES.md.
+# questions to the book that results; and fills and lines beside that. Compares all answers first. Writes the tables of docs/FIGURES.md.
 #   bench/book.sh [FOLDER]     FOLDER holds the published src; by default ../shared/docs/src beside the repository
 #   RUNS=1 bench/book.sh       another number of runs than 5; each takes about a quarter of a minute
+#   WERMAZUL_ARCHIVE=FILE bench/book.sh     another archive for this machine
 # Needs: the Rattle toolchain, Rust 1.66 or newer, the published modules, and the crates rust_decimal 1.23.1 and thiserror 1.0.38 (Debian
 # 12's packages librust-rust-decimal-dev and librust-thiserror-dev, else cargo fetches them).
 set -euo pipefail
@@ -18,9 +19,8 @@ WORK_NAME=bench_book
 . oracle/prepare.sh
 prepare "${1:-../shared/docs/src}"
 
-if [ "$machine" = "Linux x86_64" ]; then
-  rt staticlib exports >/dev/null
-  export WERMAZUL_ARCHIVE=$PWD/target/staticlib/libexports.a
+if [ "$machine" = "Linux x86_64" ] || [ -n "${WERMAZUL_ARCHIVE:-}" ]; then
+  make_archive
 else
   bench/native-archive.sh
   export WERMAZUL_ARCHIVE=$PWD/target/bench/native/libexports.a

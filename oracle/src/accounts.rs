@@ -144,7 +144,9 @@ pub fn nearly_neutral(random: &mut Random, tally: &mut Tally) {
     let mut prices = vec![0; SYMBOLS];
     prices[..3].copy_from_slice(&[price, price, 1]);
     let accounts = Accounts::of(ours);
-    (0..4).for_each(|worth| drop(accounts.worth(tally, worth, &prices)));
+    for worth in 0..4 {
+        accounts.worth(tally, worth, &prices);
+    }
 }
 
 fn divisor(a: u64, b: u64) -> u64 {

@@ -89,7 +89,7 @@ impl Pair {
     }
 
     pub fn delta(&mut self, tally: &mut Tally, delta: &Delta) -> Said {
-        let before = self.ours;
+        let before = self.ours.clone();
         let class = self.delta_class(delta);
         let said = changes::apply(&mut self.ours, delta);
         let verdict = match class {

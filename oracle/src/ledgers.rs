@@ -50,12 +50,13 @@ impl Accounts {
 
     /// Both at this record, which is a ledger.
     pub fn of(ours: OurLedger) -> Accounts {
-        Accounts { ours, theirs: money::ledger_of(ours.cash, ours.commission, &holdings(&ours)) }
+        let theirs = money::ledger_of(ours.cash, ours.commission, &holdings(&ours));
+        Accounts { ours, theirs }
     }
 
     /// The original's ledger made anew from ours, where their averages have parted.
     fn meet(&mut self) {
-        *self = Accounts::of(self.ours);
+        *self = Accounts::of(self.ours.clone());
     }
 
     fn totals_same(&self) -> bool {
@@ -67,7 +68,7 @@ impl Accounts {
         let symbol = fill.symbol as usize;
         let old = before.positions[symbol];
         let new = holdings(&self.ours)[symbol];
-        let mut others = *before;
+        let mut others = before.clone();
         others.positions[symbol] = self.ours.positions[symbol];
         let others_kept = others.positions == self.ours.positions;
         let booking = rules::booking(&old, fill);
@@ -105,7 +106,7 @@ impl Accounts {
     }
 
     pub fn fill(&mut self, tally: &mut Tally, fill: &Fill) -> (Said, Verdict) {
-        let before = self.ours;
+        let before = self.ours.clone();
         let class = self.fill_class(fill);
         let said = changes::fill(&mut self.ours, fill);
         let verdict = match class {
@@ -132,7 +133,7 @@ impl Accounts {
     }
 
     pub fn deposit(&mut self, tally: &mut Tally, amount: i64) -> Said {
-        let before = self.ours;
+        let before = self.ours.clone();
         let said = changes::deposit(&mut self.ours, amount);
         let total = before.cash as i128 + amount as i128;
         let verdict = if (amount as i128).abs() > MAX_DEPOSIT as i128 {

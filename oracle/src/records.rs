@@ -10,7 +10,7 @@ use crate::rules;
 use crate::said::Said;
 use crate::shapes;
 use crate::tally::{Class, Tally, Verdict};
-use wermazul::{Levels, OrderBook, PositionLedger};
+use wermazul::{Error, Levels, OrderBook, PositionLedger};
 
 fn spoil_side(random: &mut Random, levels: &mut Levels) {
     let place = random.below(MAX_LEVELS as u64) as usize;
@@ -41,7 +41,7 @@ fn refusal(ok: bool) -> Verdict {
 
 fn no_book(random: &mut Random, tally: &mut Tally, book: OrderBook) {
     let one = Said::refused(1);
-    let mut kept = book;
+    let mut kept = book.clone();
     let delta = Delta { side: random.below(2), action: random.below(2), price: 0, quantity: 1, sequence: book.sequence };
     let deltas = changes::apply(&mut kept, &delta) == one && changes::clear(&mut kept) == one;
     let changes = deltas && changes::remove_all(&mut kept, random.below(2)) == one;
@@ -89,7 +89,7 @@ fn spoil_ledger(random: &mut Random, ledger: &mut PositionLedger) {
 
 fn no_ledger(random: &mut Random, tally: &mut Tally, ledger: PositionLedger) {
     let one = Said::refused(1);
-    let mut kept = ledger;
+    let mut kept = ledger.clone();
     let fill = Fill { symbol: random.below(40) as u32, side: random.below(2), quantity: 1, price: 0, commission: 0 };
     let changed = changes::fill(&mut kept, &fill) == one && changes::deposit(&mut kept, 1) == one;
     tally.count("changes of no ledger", 1, refusal(changed && kept == ledger), || format!("{:?}", ledger));
@@ -115,11 +115,11 @@ pub fn ledger_round(random: &mut Random, tally: &mut Tally) {
 fn new_ledger(tally: &mut Tally, cash: i64) {
     let made = PositionLedger::new(cash);
     let verdict = if (cash as i128).abs() <= MAX_MONEY as i128 {
-        Verdict::same(made.map_or(false, |it| it == crate::ledgers::Accounts::new(cash).ours && it.cash == cash))
+        Verdict::same(made.as_ref().map_or(false, |it| *it == crate::ledgers::Accounts::new(cash).ours && it.cash == cash))
     } else {
-        Verdict::allowed(Class::Limits, told(made.map(|_| ())).number == 2)
+        Verdict::allowed(Class::Limits, told(made.as_ref().map(|_| ()).map_err(|error| *error)).number == 2)
     };
-    tally.count("PositionLedger::new", made.map_or_else(|error| error.number(), |_| 0), verdict, || {
+    tally.count("PositionLedger::new", made.as_ref().map_or_else(Error::number, |_| 0), verdict, || {
         format!("cash {}: ours {:?}", cash, made)
     });
 }

@@ -1,7 +1,8 @@
-//! What every contestant is given: a million deltas and a hundred thousand questions, from a seed.
+//! What every contestant is given: a million deltas, a hundred thousand questions and as many fills, from a seed.
 
 pub const DELTAS: usize = 1_000_000;
 pub const QUESTIONS: usize = 100_000;
+pub const FILLS: usize = 100_000;
 
 /// A delta in plain numbers. Its sequence is its place, counted from 1.
 #[derive(Clone, Copy)]
@@ -20,6 +21,16 @@ pub struct Question {
     pub price: u32,
     pub target: u32,
     pub volume: u64,
+}
+
+/// A fill in plain numbers.
+#[derive(Clone, Copy)]
+pub struct Fill {
+    pub symbol: u32,
+    pub buys: bool,
+    pub quantity: u32,
+    pub price: u32,
+    pub commission: u32,
 }
 
 /// Marsaglia's xorshift of 64 bits.
@@ -63,4 +74,13 @@ pub fn questions(seed: u64) -> Vec<Question> {
         Question { bid, price: random.price(bid), target: random.between(20, 20_000), volume: 1 + random.below(60_000) }
     };
     (0..QUESTIONS).map(&mut one).collect()
+}
+
+pub fn fills(seed: u64) -> Vec<Fill> {
+    let mut random = Random(seed);
+    let mut one = |_| {
+        let (symbol, buys) = (random.below(32) as u32, random.below(2) == 0);
+        Fill { symbol, buys, quantity: random.between(1, 1_000), price: random.between(9_901, 10_100), commission: random.between(0, 9) }
+    };
+    (0..FILLS).map(&mut one).collect()
 }

@@ -1,15 +1,33 @@
 //! What one run measured, as lines of numbers, and the tables of several runs in the form that docs/FIGURES.md has them.
 use std::collections::BTreeMap;
+use std::fmt;
 
 pub const COLUMNS: [&str; 4] = ["this library", "original", "BTreeMap", "sorted array"];
 pub const APPLY: &str = "apply_delta";
-pub const BY_VALUE: &str = "apply_delta, the record by value";
 
-/// One line: operation, contestant, the best round and the median one.
-pub fn line(operation: &str, contestant: &str, rounds: &[f64]) -> String {
-    let mut sorted = rounds.to_vec();
-    sorted.sort_by(f64::total_cmp);
-    format!("{operation}\t{contestant}\t{:.2}\t{:.2}", sorted[0], sorted[sorted.len() / 2])
+/// The times of every round, an operation and a contestant together, in the order that they came first.
+#[derive(Default)]
+pub struct Rounds(Vec<(&'static str, &'static str, Vec<f64>)>);
+
+impl Rounds {
+    pub fn add(&mut self, operation: &'static str, contestant: &'static str, time: f64) {
+        match self.0.iter_mut().find(|it| (it.0, it.1) == (operation, contestant)) {
+            Some((_, _, times)) => times.push(time),
+            None => self.0.push((operation, contestant, vec![time])),
+        }
+    }
+}
+
+/// A line each: operation, contestant, the best round and the median one.
+impl fmt::Display for Rounds {
+    fn fmt(&self, f: &mut fmt::Formatter<'_>) -> fmt::Result {
+        for (operation, contestant, times) in &self.0 {
+            let mut sorted = times.clone();
+            sorted.sort_by(f64::total_cmp);
+            writeln!(f, "{operation}\t{contestant}\t{:.2}\t{:.2}", sorted[0], sorted[sorted.len() / 2])?;
+        }
+        Ok(())
+    }
 }
 
 /// The times of a contestant at an operation, a run each: best or median.
@@ -28,9 +46,15 @@ fn read(runs: &[String], column: usize) -> (Vec<String>, Times) {
     (operations, times)
 }
 
-/// A number with so many decimals if it is below 10, and one fewer above.
+/// A number with so many decimals if it is below 10, one fewer above, and one more below a tenth.
 fn shown(number: f64, decimals: usize) -> String {
-    let decimals = if number < 9.95 { decimals } else { decimals - 1 };
+    let decimals = if number >= 9.95 {
+        decimals - 1
+    } else if number < 0.095 {
+        decimals + 1
+    } else {
+        decimals
+    };
     format!("{number:.decimals$}")
 }
 
@@ -44,17 +68,16 @@ fn range(numbers: &[f64], decimals: usize) -> String {
     }
 }
 
-/// An operation's row. The call by value is set against the original's one call.
+/// An operation's row. Who does not have it has an empty place.
 fn row(operation: &str, times: &Times) -> String {
-    let of = |contestant: &str| {
-        let known = if contestant == COLUMNS[1] && operation == BY_VALUE { APPLY } else { operation };
-        times.get(&(known.to_string(), contestant.to_string()))
-    };
+    let of = |contestant: &str| times.get(&(operation.to_string(), contestant.to_string()));
     let cells = COLUMNS.map(|contestant| of(contestant).map_or(String::new(), |times| range(times, 1)));
-    let (ours, theirs) = (of(COLUMNS[0]).expect("ours"), of(COLUMNS[1]).expect("the original's"));
-    let ratios: Vec<f64> = ours.iter().zip(theirs).map(|(ours, theirs)| theirs / ours).collect();
+    let ratios = of(COLUMNS[0]).zip(of(COLUMNS[1])).map(|(ours, theirs)| {
+        let ratios: Vec<f64> = ours.iter().zip(theirs).map(|(ours, theirs)| theirs / ours).collect();
+        range(&ratios, 2)
+    });
     let note = if operation == APPLY { " (this library tests the whole record each time, the others test nothing of theirs)" } else { "" };
-    format!("| {operation}{note} | {} | {} |", cells.join(" | "), range(&ratios, 2))
+    format!("| {operation}{note} | {} | {} |", cells.join(" | "), ratios.unwrap_or_default())
 }
 
 fn table(runs: &[String], column: usize) -> String {

@@ -1,6 +1,6 @@
 //! Questions and listings as values, and the answers to them. Every method that asks goes by these.
-use crate::ffi::{Told, Whole};
-use crate::{Error, PriceLevel, Side};
+use crate::told::{Told, Whole};
+use crate::{Error, PriceLevel, Quotient, Side};
 
 /// Any question to a book. A second name of the original shares its twin's question, and a side is an argument.
 #[derive(Clone, Copy, Debug, PartialEq, Eq)]
@@ -87,15 +87,6 @@ pub struct Quote {
     pub ask: PriceLevel,
 }
 
-/// An exact quotient, not reduced. The denominator is never 0.
-#[derive(Clone, Copy, Debug, PartialEq, Eq)]
-pub struct Quotient {
-    /// What is divided.
-    pub numerator: i64,
-    /// By what.
-    pub denominator: u64,
-}
-
 /// What is listed into a lent buffer: price, quantity, price, quantity.
 #[derive(Clone, Copy, Debug, PartialEq, Eq)]
 pub enum Listing {
@@ -126,6 +117,8 @@ pub(crate) struct Asked {
 }
 
 impl Question {
+    // Always inline, as `Answer::of` and `ask` are: a question by its name is then worked out by the compiler.
+    #[inline(always)]
     pub(crate) fn asked(self) -> Asked {
         use Kind::{Flag, Level, Number, Quote, Ratio};
         // A question without a side is asked with Bid, one without numbers with 0.
@@ -190,14 +183,29 @@ const OF_ITS_KIND: &str = "each question has answers of one kind";
 
 impl Answer {
     /// What was told, as an answer of its kind.
-    pub(crate) fn of(kind: Kind, told: Told) -> Result<Answer, Error> {
-        let [first, second, third, fourth] = told.done()?;
+    #[inline(always)]
+    pub(crate) fn of(kind: Kind, told: &Told) -> Result<Answer, Error> {
         Ok(match kind {
-            Kind::Number => Answer::Number(first.long()),
-            Kind::Flag => Answer::Flag(first.long() != 0),
-            Kind::Level => Answer::Level(level(first, second)),
-            Kind::Quote => Answer::Quote(Quote { bid: level(first, second), ask: level(third, fourth) }),
-            Kind::Ratio => Answer::Ratio(Quotient { numerator: first.signed(), denominator: second.long() }),
+            Kind::Number => {
+                let [number] = told.values()?;
+                Answer::Number(number.long())
+            }
+            Kind::Flag => {
+                let [flag] = told.values()?;
+                Answer::Flag(flag.long() != 0)
+            }
+            Kind::Level => {
+                let [price, quantity] = told.values()?;
+                Answer::Level(level(price, quantity))
+            }
+            Kind::Quote => {
+                let [bid, lots, ask, lots_asked] = told.values()?;
+                Answer::Quote(Quote { bid: level(bid, lots), ask: level(ask, lots_asked) })
+            }
+            Kind::Ratio => {
+                let [numerator, denominator] = told.values()?;
+                Answer::Ratio(Quotient { numerator: numerator.signed(), denominator: denominator.long() })
+            }
         })
     }
 

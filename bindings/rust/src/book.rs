@@ -1,8 +1,8 @@
 //! The order book.
-use crate::ask::{Answer, Kind, Listing, Question, Quote, Quotient};
+use crate::ask::{Answer, Listing, Question, Quote};
 use crate::ffi;
 use crate::named::{levels, named_questions};
-use crate::{Error, Side, MAX_LEVELS};
+use crate::{Error, Quotient, Side, MAX_LEVELS};
 
 /// A level: so many lots at a price.
 #[derive(Clone, Copy, Debug, PartialEq, Eq)]
@@ -39,7 +39,7 @@ pub struct BookDelta {
 
 /// One side of a book, best level first. Places from `count` on are 0.
 #[repr(C)]
-#[derive(Clone, Copy, Debug, PartialEq, Eq)]
+#[derive(Clone, Debug, PartialEq, Eq)]
 pub struct Levels {
     /// The prices.
     pub prices: [u32; MAX_LEVELS],
@@ -51,7 +51,7 @@ pub struct Levels {
 
 /// An order book. Any record may be made and asked: every call tests it, and refuses one that is no book with 1.
 #[repr(C)]
-#[derive(Clone, Copy, Debug, PartialEq, Eq)]
+#[derive(Clone, Debug, PartialEq, Eq)]
 pub struct OrderBook {
     /// The bids, prices falling.
     pub bids: Levels,
@@ -64,29 +64,40 @@ pub struct OrderBook {
 impl OrderBook {
     /// No levels, sequence 0.
     pub fn new() -> OrderBook {
+        // SAFETY: nothing goes over.
         unsafe { ffi::wermazul_book() }
     }
 
     /// Whether the record is a book.
     pub fn is_book(&self) -> bool {
-        unsafe { ffi::wermazul_is_book(*self) != 0 }
+        let OrderBook { bids, asks, .. } = self;
+        // SAFETY: the rows are four fields of one record, of 128 places each, lent for the call.
+        unsafe { ffi::wermazul_is_book(&bids.prices, &bids.quantities, &asks.prices, &asks.quantities, self.counts()) != 0 }
+    }
+
+    pub(crate) fn counts(&self) -> ffi::Counts {
+        ffi::Counts { bids: self.bids.count, asks: self.asks.count, sequence: self.sequence }
+    }
+
+    pub(crate) fn set_counts(&mut self, counts: ffi::Counts) {
+        self.bids.count = counts.bids;
+        self.asks.count = counts.asks;
+        self.sequence = counts.sequence;
     }
 
     fn become_told(&mut self, after: ffi::BookTold) -> Result<(), Error> {
         *self = after.book;
-        after.told.done().map(|_| ())
+        after.told.done()
     }
 
-    fn counts(&self) -> ffi::Counts {
-        ffi::Counts { bids: self.bids.count, asks: self.asks.count, sequence: self.sequence }
-    }
-
-    /// Takes a delta. A refused one leaves the book as it was. The rows are changed where they are, and the record is not copied.
+    /// Takes a delta, where the book stands. A refused one leaves it as it was.
     pub fn apply_delta(&mut self, delta: BookDelta) -> Result<(), Error> {
         let BookDelta { side, price, quantity, action, sequence } = delta;
-        let (counts, bids, asks) = (self.counts(), &mut self.bids, &mut self.asks);
+        let counts = self.counts();
+        let OrderBook { bids, asks, .. } = self;
+        // SAFETY: the rows are four fields of one record, of 128 places each, lent to this call alone.
         let after = unsafe {
-            ffi::wermazul_apply_delta_in_place(
+            ffi::wermazul_apply_delta(
                 &mut bids.prices,
                 &mut bids.quantities,
                 &mut asks.prices,
@@ -99,59 +110,89 @@ impl OrderBook {
                 sequence,
             )
         };
-        bids.count = after.counts.bids;
-        asks.count = after.counts.asks;
-        self.sequence = after.counts.sequence;
-        after.told.done().map(|_| ())
-    }
-
-    /// `apply_delta` by the call that takes the record by value and gives it back, to be timed and compared.
-    #[doc(hidden)]
-    pub fn apply_delta_by_value(&mut self, delta: BookDelta) -> Result<(), Error> {
-        let BookDelta { side, price, quantity, action, sequence } = delta;
-        self.become_told(unsafe { ffi::wermazul_apply_delta(*self, side as u64, action as u64, price, quantity, sequence) })
+        self.set_counts(after.counts);
+        after.told.done()
     }
 
     /// Empties both sides and sets the sequence to 0.
     pub fn clear(&mut self) -> Result<(), Error> {
-        self.become_told(unsafe { ffi::wermazul_clear(*self) })
+        // SAFETY: all goes over by value, and any record and number is taken.
+        self.become_told(unsafe { ffi::wermazul_clear(self.clone()) })
     }
 
     /// Empties one side and keeps the sequence.
     pub fn remove_all(&mut self, side: Side) -> Result<(), Error> {
-        self.become_told(unsafe { ffi::wermazul_remove_all(*self, side as u64) })
+        // SAFETY: all goes over by value, and any record and number is taken.
+        self.become_told(unsafe { ffi::wermazul_remove_all(self.clone(), side as u64) })
     }
 
     /// The answer to any question.
+    #[inline(always)]
     pub fn ask(&self, question: Question) -> Result<Answer, Error> {
-        let q = question.asked();
-        Answer::of(q.kind, unsafe { ffi::wermazul_ask(*self, q.number, q.side, q.small, q.large) })
-    }
-
-    /// The answer to a question by its name, where that walks a side: asked of the rows where they are, without a copy of the record.
-    pub(crate) fn walk(&self, question: Question) -> Result<Answer, Error> {
-        let (walk, kind, side, target) = match question {
-            Question::TotalVolume(side) => (0, Kind::Number, side, 0),
-            Question::VwapForQty(side, target) => (1, Kind::Ratio, side, target),
-            Question::PriceImpact(side, target) => (2, Kind::Ratio, side, target),
-            other => return self.ask(other),
+        let (q, OrderBook { bids, asks, .. }) = (question.asked(), self);
+        // SAFETY: the rows are four fields of one record, of 128 places each, lent for the call.
+        let told = unsafe {
+            ffi::wermazul_ask(
+                &bids.prices,
+                &bids.quantities,
+                &asks.prices,
+                &asks.quantities,
+                self.counts(),
+                q.number,
+                q.side,
+                q.small,
+                q.large,
+            )
         };
-        let (bids, asks, side) = (&self.bids, &self.asks, side as u64);
-        Answer::of(kind, unsafe {
-            ffi::wermazul_walk_in_place(walk, side, &bids.prices, &bids.quantities, &asks.prices, &asks.quantities, self.counts(), target)
-        })
+        Answer::of(q.kind, &told)
     }
 
     /// The places that a listing fills in a buffer of `room` places.
     pub fn places(&self, listing: Listing, room: usize) -> Result<usize, Error> {
-        let l = listing.listed();
-        unsafe { ffi::wermazul_places(*self, l.number, l.side, l.from, l.to, room as u64) }.length()
+        let (l, OrderBook { bids, asks, .. }) = (listing.listed(), self);
+        // SAFETY: the rows are four fields of one record, of 128 places each, lent for the call.
+        let told = unsafe {
+            ffi::wermazul_places(
+                &bids.prices,
+                &bids.quantities,
+                &asks.prices,
+                &asks.quantities,
+                self.counts(),
+                l.number,
+                l.side,
+                l.from,
+                l.to,
+                room as u64,
+            )
+        };
+        told.length()
     }
 
     /// Writes a listing to the front of a lent buffer and gives the places filled. The rest keeps its numbers; all do on a refusal.
     pub fn list(&self, listing: Listing, out: &mut [u32]) -> Result<usize, Error> {
-        let l = listing.listed();
-        unsafe { ffi::wermazul_list(*self, l.number, l.side, l.from, l.to, out.as_mut_ptr(), out.len()) }.length()
+        let (l, OrderBook { bids, asks, .. }) = (listing.listed(), self);
+        // SAFETY: the rows are four fields of one record, of 128 places each, and the buffer is one slice, lent to this call alone.
+        let told = unsafe {
+            ffi::wermazul_list(
+                &bids.prices,
+                &bids.quantities,
+                &asks.prices,
+                &asks.quantities,
+                self.counts(),
+                l.number,
+                l.side,
+                l.from,
+                l.to,
+                out.as_mut_ptr(),
+                out.len(),
+            )
+        };
+        told.length()
+    }
+
+    /// The book whose levels a listing writes.
+    fn book(&self) -> &OrderBook {
+        self
     }
 }
 

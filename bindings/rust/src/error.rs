@@ -1,5 +1,5 @@
 //! Why a call refuses.
-use crate::ffi::Told;
+use crate::told::{Told, Whole};
 use std::fmt;
 
 /// Why a call refuses: the numbers 1 to 17, in their order, each with what it carries. A refused call changes nothing, save that a line
@@ -65,22 +65,36 @@ pub enum Error {
 
 impl Error {
     /// What a refusal is told as. The archive tells 1 to 17 and no other number.
-    pub(crate) fn of(told: Told) -> Error {
-        let [first, second, ..] = told.values;
+    pub(crate) fn of(told: &Told) -> Error {
         match told.number {
             1 => Error::NotARecord,
             2 => Error::OutOfLimits,
             3 => Error::LastSequence,
-            4 => Error::SequenceMismatch { expected: first.long(), got: second.long() },
-            5 => Error::InvertedSpread { best_bid: first.word(), best_ask: second.word() },
+            4 => {
+                let [expected, got] = told.carried().map(Whole::long);
+                Error::SequenceMismatch { expected, got }
+            }
+            5 => {
+                let [best_bid, best_ask] = told.carried().map(Whole::word);
+                Error::InvertedSpread { best_bid, best_ask }
+            }
             6 => Error::FullSide,
-            7 => Error::InsufficientLiquidity { target: first.word() },
-            8 => Error::InsufficientFunds { need: first.signed(), have: second.signed() },
+            7 => {
+                let [target] = told.carried().map(Whole::word);
+                Error::InsufficientLiquidity { target }
+            }
+            8 => {
+                let [need, have] = told.carried().map(Whole::signed);
+                Error::InsufficientFunds { need, have }
+            }
             9 => Error::PastLimit,
             10 => Error::NoValue,
             11 => Error::NoRoom,
             12 => Error::DamagedLine,
-            13 => Error::Unpriced { symbol: first.word() },
+            13 => {
+                let [symbol] = told.carried().map(Whole::word);
+                Error::Unpriced { symbol }
+            }
             14 => Error::OldFrame,
             15 => Error::Gap,
             16 => Error::Waiting,

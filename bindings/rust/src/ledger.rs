@@ -31,7 +31,7 @@ pub struct Position {
 
 /// Cash and one position a symbol. Any record may be made and asked: every call tests it, and refuses one that is no ledger with 1.
 #[repr(C)]
-#[derive(Clone, Copy, Debug, PartialEq, Eq)]
+#[derive(Clone, Debug, PartialEq, Eq)]
 pub struct PositionLedger {
     /// Within 4·10^18 of 0.
     pub cash: i64,
@@ -44,41 +44,47 @@ pub struct PositionLedger {
 impl PositionLedger {
     /// A ledger with this cash and nothing else; 2 if the cash is outside its limit.
     pub fn new(initial_cash: i64) -> Result<PositionLedger, Error> {
+        // SAFETY: all goes over by value, and any record and number is taken.
         let made = unsafe { ffi::wermazul_ledger(initial_cash) };
-        made.told.done().map(|_| made.ledger)
+        made.told.done().map(|()| made.ledger)
     }
 
     /// Whether the record is a ledger.
     pub fn is_ledger(&self) -> bool {
-        unsafe { ffi::wermazul_is_ledger(*self) != 0 }
+        // SAFETY: all goes over by value, and any record and number is taken.
+        unsafe { ffi::wermazul_is_ledger(self.clone()) != 0 }
     }
 
     fn become_told(&mut self, after: ffi::LedgerTold) -> Result<(), Error> {
         *self = after.ledger;
-        after.told.done().map(|_| ())
+        after.told.done()
     }
 
     /// Books a fill. A refused one leaves the ledger as it was.
     pub fn apply_fill(&mut self, fill: Fill) -> Result<(), Error> {
         let Fill { symbol, side, quantity, price, commission } = fill;
-        self.become_told(unsafe { ffi::wermazul_apply_fill(*self, symbol, side as u64, quantity, price, commission) })
+        // SAFETY: all goes over by value, and any record and number is taken.
+        self.become_told(unsafe { ffi::wermazul_apply_fill(self.clone(), symbol, side as u64, quantity, price, commission) })
     }
 
     /// Pays cash in, or out if the amount is negative.
     pub fn deposit(&mut self, amount: i64) -> Result<(), Error> {
-        self.become_told(unsafe { ffi::wermazul_deposit(*self, amount) })
+        // SAFETY: all goes over by value, and any record and number is taken.
+        self.become_told(unsafe { ffi::wermazul_deposit(self.clone(), amount) })
     }
 
     /// The unrealized profit of one symbol at a price.
     pub fn checked_unrealized_pnl(&self, symbol: u32, current_price: u32) -> Result<i64, Error> {
-        let told = unsafe { ffi::wermazul_unrealized(*self, symbol, current_price) };
-        Ok(told.done()?[0].signed())
+        // SAFETY: all goes over by value, and any record and number is taken.
+        let told = unsafe { ffi::wermazul_unrealized(self.clone(), symbol, current_price) };
+        told.values().map(|[amount]| amount.signed())
     }
 
     /// One of the four worths at prices, by its number.
     fn worth(&self, worth: u64, prices: &[u32]) -> Result<i64, Error> {
-        let told = unsafe { ffi::wermazul_worth(*self, worth, prices.as_ptr(), prices.len()) };
-        Ok(told.done()?[0].signed())
+        // SAFETY: the record goes over by value; pointer and length are those of one slice, which is lent for the call.
+        let told = unsafe { ffi::wermazul_worth(self.clone(), worth, prices.as_ptr(), prices.len()) };
+        told.values().map(|[amount]| amount.signed())
     }
 
     /// The unrealized profit of all positions. The prices of all 32 symbols, 0 for none: here and below another length gives 2.

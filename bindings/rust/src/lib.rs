@@ -1,9 +1,9 @@
 //! A proved order book, position ledger and market-feed receiver, for Rust.
 //!
 //! The work is done by an archive of functions that are written and proved in Rattle; this crate declares them and gives them the types
-//! and names of the Rust modules that they were ported from. A record goes in by value and the new one comes back; a delta changes
-//! a book where it is. A refused call leaves the record as it was. Prices, quantities and money are whole numbers, quotients are exact,
-//! and every refusal has a number ([`Error`]).
+//! and names of the Rust modules that they were ported from. A book or a receiver is asked and changed where it stands; a ledger, and a
+//! book that is emptied, goes in by value and comes back. A refused call leaves the record as it was. Prices, quantities and money are
+//! whole numbers, quotients are exact, and every refusal has a number ([`Error`]).
 //!
 //! - [`OrderBook`]: deltas, questions by name or as a [`Question`], and levels listed into a buffer.
 //! - [`PositionLedger`]: fills, cash, and what the positions are worth at prices.
@@ -12,7 +12,7 @@
 //! ```
 #![doc = include_str!("../examples/first.rs")]
 //! ```
-#![deny(missing_docs)]
+#![deny(missing_docs, clippy::undocumented_unsafe_blocks)]
 
 mod ask;
 mod book;
@@ -21,12 +21,17 @@ mod feed;
 mod ffi;
 mod ledger;
 mod named;
+mod quotient;
+mod receiver;
+mod told;
 
-pub use ask::{Answer, Listing, Question, Quote, Quotient};
+pub use ask::{Answer, Listing, Question, Quote};
 pub use book::{BookDelta, DeltaAction, Levels, OrderBook, PriceLevel};
 pub use error::Error;
-pub use feed::{line_end, line_kind, read_line, write_delta, write_snapshot, Frame, LineKind, Receiver};
+pub use feed::{line_end, line_kind, read_line, write_delta, write_snapshot, Frame, LineKind};
 pub use ledger::{Fill, Position, PositionLedger};
+pub use quotient::Quotient;
+pub use receiver::Receiver;
 
 /// A side of a book, or of a trade.
 #[derive(Clone, Copy, Debug, PartialEq, Eq)]

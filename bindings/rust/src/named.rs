@@ -1,10 +1,20 @@
-//! The questions by the original's names, for a record that has `ask`, `walk` and `list`: a book and a receiver have the same.
-use crate::{Error, PriceLevel};
+//! The questions by the original's names, for a record that has `ask`, `list` and `book`: a book and a receiver have the same.
+use crate::{Error, PriceLevel, MAX_LEVELS};
 
-/// The levels that a listing writes: its calls in one buffer that any listing fits.
-pub(crate) fn levels(list: impl FnOnce(&mut [u32]) -> Result<usize, Error>) -> Result<Vec<PriceLevel>, Error> {
-    let mut places = [0; 4 * crate::MAX_LEVELS];
-    let filled = list(&mut places)?;
+/// The levels that fit a short buffer.
+const SHORT: usize = 32;
+
+/// The levels that a listing writes: its call in a buffer that has room for as many, of which a short one is the sooner made.
+pub(crate) fn levels(most: usize, list: impl FnOnce(&mut [u32]) -> Result<usize, Error>) -> Result<Vec<PriceLevel>, Error> {
+    if most <= SHORT {
+        levels_in(&mut [0; 2 * SHORT], list)
+    } else {
+        levels_in(&mut [0; 4 * MAX_LEVELS], list)
+    }
+}
+
+fn levels_in(places: &mut [u32], list: impl FnOnce(&mut [u32]) -> Result<usize, Error>) -> Result<Vec<PriceLevel>, Error> {
+    let filled = list(places)?;
     let pairs = places[..filled].chunks_exact(2);
     Ok(pairs.map(|pair| PriceLevel { price: pair[0], quantity: pair[1] }).collect())
 }
@@ -124,12 +134,12 @@ macro_rules! named_questions {
 
             /// The quantity of all bids.
             pub fn total_bid_volume(&self) -> Result<u64, Error> {
-                Ok(self.walk(Question::TotalVolume(Side::Bid))?.number())
+                Ok(self.ask(Question::TotalVolume(Side::Bid))?.number())
             }
 
             /// The quantity of all asks.
             pub fn total_ask_volume(&self) -> Result<u64, Error> {
-                Ok(self.walk(Question::TotalVolume(Side::Ask))?.number())
+                Ok(self.ask(Question::TotalVolume(Side::Ask))?.number())
             }
 
             /// Second name of `total_bid_volume`.
@@ -194,12 +204,12 @@ macro_rules! named_questions {
 
             /// The cost of filling `qty` from a side, best first, over `qty`; 7 if the side has less. For 0 it is 0 over 1.
             pub fn vwap_for_qty(&self, side: Side, qty: u32) -> Result<Quotient, Error> {
-                Ok(self.walk(Question::VwapForQty(side, qty))?.ratio())
+                Ok(self.ask(Question::VwapForQty(side, qty))?.ratio())
             }
 
             /// The same for a trade: Bid buys from the asks, Ask sells to the bids. 10 for 0 or too little depth.
             pub fn price_impact(&self, side: Side, qty: u32) -> Result<Quotient, Error> {
-                Ok(self.walk(Question::PriceImpact(side, qty))?.ratio())
+                Ok(self.ask(Question::PriceImpact(side, qty))?.ratio())
             }
 
             /// The price of the first level at which the running total of a side reaches the target, else the last level's.
@@ -209,12 +219,12 @@ macro_rules! named_questions {
 
             /// The best `n` bids.
             pub fn top_bids(&self, n: usize) -> Result<Vec<PriceLevel>, Error> {
-                levels(|out| self.list(Listing::Top(Side::Bid, n), out))
+                levels(n, |out| self.list(Listing::Top(Side::Bid, n), out))
             }
 
             /// The best `n` asks.
             pub fn top_asks(&self, n: usize) -> Result<Vec<PriceLevel>, Error> {
-                levels(|out| self.list(Listing::Top(Side::Ask, n), out))
+                levels(n, |out| self.list(Listing::Top(Side::Ask, n), out))
             }
 
             /// Second name of `top_bids`.
@@ -239,14 +249,14 @@ macro_rules! named_questions {
 
             /// The best `n` bids and the best `n` asks.
             pub fn snapshot(&self, n: usize) -> Result<(Vec<PriceLevel>, Vec<PriceLevel>), Error> {
-                let mut bids = levels(|out| self.list(Listing::Snapshot(n), out))?;
-                let asks = bids.split_off(self.bid_count()?.min(n));
+                let mut bids = levels(n.saturating_mul(2), |out| self.list(Listing::Snapshot(n), out))?;
+                let asks = bids.split_off(self.book().bids.count.min(n));
                 Ok((bids, asks))
             }
 
             /// The levels of a side with prices from `lo` to `hi`, upward; 2 if `lo` is above `hi`.
             pub fn price_levels_between(&self, side: Side, lo: u32, hi: u32) -> Result<Vec<PriceLevel>, Error> {
-                levels(|out| self.list(Listing::Between(side, lo, hi), out))
+                levels(MAX_LEVELS, |out| self.list(Listing::Between(side, lo, hi), out))
             }
         }
     };

@@ -1,7 +1,8 @@
 //! The book's changes and what a record must be.
 mod common;
 use common::{book_k, full_book, level, remove, set};
-use wermazul::{Error, Levels, OrderBook, Side, MAX_LEVELS, MAX_PRICE, MAX_QUANTITY};
+use std::collections::BTreeMap;
+use wermazul::{BookDelta, DeltaAction, Error, Levels, Listing, OrderBook, Side, MAX_LEVELS, MAX_PRICE, MAX_QUANTITY};
 
 /// A side as the record holds it.
 fn side(levels: &[(u32, u32)]) -> Levels {
@@ -48,18 +49,44 @@ fn refused_deltas_leave_the_book() {
     }
 }
 
+/// The deltas that are taken, on a map a side: a plain book to hold ours to.
+#[derive(Default)]
+struct Maps {
+    bids: BTreeMap<u32, u32>,
+    asks: BTreeMap<u32, u32>,
+    sequence: u64,
+}
+
+impl Maps {
+    fn take(&mut self, delta: BookDelta) {
+        let side = if delta.side == Side::Bid { &mut self.bids } else { &mut self.asks };
+        match delta.action {
+            DeltaAction::Set => side.insert(delta.price, delta.quantity),
+            DeltaAction::Remove => side.remove(&delta.price),
+        };
+        self.sequence = delta.sequence;
+    }
+
+    fn record(&self) -> OrderBook {
+        let pair = |(price, quantity): (&u32, &u32)| (*price, *quantity);
+        let (bids, asks): (Vec<_>, Vec<_>) = (self.bids.iter().rev().map(pair).collect(), self.asks.iter().map(pair).collect());
+        OrderBook { bids: side(&bids), asks: side(&asks), sequence: self.sequence }
+    }
+}
+
 #[test]
-fn in_place_as_by_value() {
-    let (mut placed, mut valued) = (OrderBook::new(), OrderBook::new());
+fn taken_deltas_as_on_maps() {
+    let (mut book, mut maps) = (OrderBook::new(), Maps::default());
     let mut taken = 0;
     for i in 0..2000u32 {
         let side = if i % 3 == 0 { Side::Bid } else { Side::Ask };
         let price = 1000 + i * 7919 % 263;
-        let delta = if i % 5 == 4 { remove(side, price, placed.sequence + 1) } else { set(side, price, i, placed.sequence + 1) };
-        let answer = placed.apply_delta(delta);
-        assert_eq!(answer, valued.apply_delta_by_value(delta), "{delta:?}");
-        assert_eq!(placed, valued, "{delta:?}");
-        taken += usize::from(answer.is_ok());
+        let delta = if i % 5 == 4 { remove(side, price, book.sequence + 1) } else { set(side, price, i, book.sequence + 1) };
+        if book.apply_delta(delta).is_ok() {
+            maps.take(delta);
+            taken += 1;
+        }
+        assert_eq!(book, maps.record(), "{delta:?}");
     }
     assert!(taken > 400 && taken < 1900, "deltas of both outcomes: {taken}");
 }
@@ -121,10 +148,9 @@ fn malformed_records_are_refused_everywhere() {
     for spoil in spoil {
         let mut book = book_k();
         spoil(&mut book);
-        let record = book;
+        let record = book.clone();
         assert!(!book.is_book());
         assert_eq!(book.apply_delta(set(Side::Bid, 1, 1, 6)), Err(Error::NotARecord));
-        assert_eq!(book.apply_delta_by_value(set(Side::Bid, 1, 1, 6)), Err(Error::NotARecord));
         assert_eq!(book.clear(), Err(Error::NotARecord));
         assert_eq!(book.remove_all(Side::Bid), Err(Error::NotARecord));
         assert_eq!(book.best_bid(), Err(Error::NotARecord));
@@ -132,6 +158,7 @@ fn malformed_records_are_refused_everywhere() {
         assert_eq!(book.vwap_for_qty(Side::Bid, 1), Err(Error::NotARecord));
         assert_eq!(book.price_impact(Side::Bid, 1), Err(Error::NotARecord));
         assert_eq!(book.top_asks(1), Err(Error::NotARecord));
+        assert_eq!(book.places(Listing::Snapshot(1), 4), Err(Error::NotARecord));
         assert_eq!(book, record);
     }
 }

@@ -48,7 +48,7 @@ fn four_fills() {
 #[test]
 fn too_little_cash() {
     let mut ledger = PositionLedger::new(100).unwrap();
-    let before = ledger;
+    let before = ledger.clone();
     assert_eq!(ledger.apply_fill(fill(0, Side::Bid, 1, 99, 2)), Err(Error::InsufficientFunds { need: 101, have: 100 }));
     assert_eq!(ledger, before);
     ledger.apply_fill(fill(0, Side::Bid, 1, 99, 1)).unwrap();
@@ -60,7 +60,7 @@ fn too_little_cash() {
 #[test]
 fn deposits() {
     let mut ledger = PositionLedger::new(3_500_000_000_000_000_000).unwrap();
-    let before = ledger;
+    let before = ledger.clone();
     assert_eq!(ledger.deposit(1_000_000_000_000_000_000), Err(Error::PastLimit));
     assert_eq!(ledger.deposit(1_000_000_000_000_000_001), Err(Error::OutOfLimits));
     assert_eq!(ledger, before);
@@ -71,7 +71,7 @@ fn deposits() {
 #[test]
 fn fills_outside_the_limits() {
     let mut ledger = PositionLedger::new(1000).unwrap();
-    let before = ledger;
+    let before = ledger.clone();
     let refused = [
         fill(32, Side::Ask, 1, 1, 0),
         fill(0, Side::Ask, 1_000_000_001, 1, 0),
@@ -138,7 +138,7 @@ fn malformed_records_are_refused_everywhere() {
         let mut ledger = PositionLedger::new(1).unwrap();
         assert!(ledger.is_ledger());
         spoil(&mut ledger);
-        let record = ledger;
+        let record = ledger.clone();
         assert!(!ledger.is_ledger());
         assert_eq!(ledger.apply_fill(fill(0, Side::Ask, 1, 1, 0)), Err(Error::NotARecord));
         assert_eq!(ledger.deposit(1), Err(Error::NotARecord));

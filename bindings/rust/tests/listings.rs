@@ -20,6 +20,11 @@ fn lists_of_book_k() {
 
 #[test]
 fn a_full_book_fits() {
+    for n in [0, 1, 16, 17, 32, 33, 127, 128, 129] {
+        let (bids, asks) = full_book().snapshot(n).unwrap();
+        assert_eq!((bids.len(), asks.len()), (n.min(128), n.min(128)));
+        assert_eq!((Ok(bids), Ok(asks)), (full_book().top_bids(n), full_book().top_asks(n)));
+    }
     let (bids, asks) = full_book().snapshot(usize::MAX).unwrap();
     assert_eq!((bids.len(), bids[0], bids[127]), (128, level(1000, 1), level(873, 128)));
     assert_eq!((asks.len(), asks[0], asks[127]), (128, level(1001, 201), level(1128, 328)));

@@ -3,8 +3,9 @@ mod common;
 use common::{book_k, full_book, level};
 use wermazul::{Answer, Error, OrderBook, Question, Quote, Quotient, Side, MAX_QUANTITY};
 
-fn over(numerator: i64, denominator: u64) -> Result<Quotient, Error> {
-    Ok(Quotient { numerator, denominator })
+/// Both numbers of a quotient, which are equal only as they stand.
+fn exact(answer: Result<Quotient, Error>) -> Result<(i64, u64), Error> {
+    answer.map(|it| (it.numerator, it.denominator))
 }
 
 #[test]
@@ -18,11 +19,11 @@ fn best_levels() {
     assert_eq!(k.best_ask_qty(), Ok(4));
     assert_eq!(k.best_quote(), Ok(Quote { bid: level(100, 5), ask: level(101, 4) }));
     assert_eq!(k.spread(), Ok(1));
-    assert_eq!(k.mid_price(), over(201, 2));
-    assert_eq!(k.spread_pct(), over(200, 201));
-    assert_eq!(k.spread_bps(), over(20000, 201));
-    assert_eq!(k.weighted_mid(), over(905, 9));
-    assert_eq!(k.weighted_mid_price(), over(905, 9));
+    assert_eq!(exact(k.mid_price()), Ok((201, 2)));
+    assert_eq!(exact(k.spread_pct()), Ok((200, 201)));
+    assert_eq!(exact(k.spread_bps()), Ok((20000, 201)));
+    assert_eq!(exact(k.weighted_mid()), Ok((905, 9)));
+    assert_eq!(exact(k.weighted_mid_price()), Ok((905, 9)));
 }
 
 #[test]
@@ -48,30 +49,30 @@ fn counts_and_volumes() {
 #[test]
 fn ratios() {
     let k = book_k();
-    assert_eq!(k.imbalance(), over(5, 25));
-    assert_eq!(k.depth_imbalance(), over(5, 25));
-    assert_eq!(k.depth_ratio(2), over(5, 10));
-    assert_eq!(k.bid_ask_ratio(), over(15, 10));
-    assert_eq!(k.ask_bid_ratio(), over(10, 15));
-    assert_eq!(k.bid_depth_skew(1), over(5, 9));
+    assert_eq!(exact(k.imbalance()), Ok((5, 25)));
+    assert_eq!(exact(k.depth_imbalance()), Ok((5, 25)));
+    assert_eq!(exact(k.depth_ratio(2)), Ok((5, 10)));
+    assert_eq!(exact(k.bid_ask_ratio()), Ok((15, 10)));
+    assert_eq!(exact(k.ask_bid_ratio()), Ok((10, 15)));
+    assert_eq!(exact(k.bid_depth_skew(1)), Ok((5, 9)));
 }
 
 #[test]
 fn negative_numerator() {
     // Bids 1 to 128, asks 201 to 328: 8256 and 33856.
-    assert_eq!(full_book().imbalance(), over(-25600, 42112));
+    assert_eq!(exact(full_book().imbalance()), Ok((-25600, 42112)));
 }
 
 #[test]
 fn prices_of_trading() {
     let k = book_k();
-    assert_eq!(k.vwap_for_qty(Side::Bid, 7), over(696, 7));
-    assert_eq!(k.price_impact(Side::Ask, 7), over(696, 7));
-    assert_eq!(k.vwap_for_qty(Side::Ask, 7), over(713, 7));
-    assert_eq!(k.price_impact(Side::Bid, 7), over(713, 7));
-    assert_eq!(k.vwap_for_qty(Side::Bid, 15), over(1480, 15));
+    assert_eq!(exact(k.vwap_for_qty(Side::Bid, 7)), Ok((696, 7)));
+    assert_eq!(exact(k.price_impact(Side::Ask, 7)), Ok((696, 7)));
+    assert_eq!(exact(k.vwap_for_qty(Side::Ask, 7)), Ok((713, 7)));
+    assert_eq!(exact(k.price_impact(Side::Bid, 7)), Ok((713, 7)));
+    assert_eq!(exact(k.vwap_for_qty(Side::Bid, 15)), Ok((1480, 15)));
     assert_eq!(k.vwap_for_qty(Side::Bid, 16), Err(Error::InsufficientLiquidity { target: 16 }));
-    assert_eq!(k.vwap_for_qty(Side::Bid, 0), over(0, 1));
+    assert_eq!(exact(k.vwap_for_qty(Side::Bid, 0)), Ok((0, 1)));
     assert_eq!(k.price_impact(Side::Ask, 16), Err(Error::NoValue));
     assert_eq!(k.price_at_volume(Side::Bid, 5), Ok(100));
     assert_eq!(k.price_at_volume(Side::Bid, 6), Ok(98));
@@ -79,7 +80,7 @@ fn prices_of_trading() {
 }
 
 #[test]
-fn walks_in_place_as_asked() {
+fn by_name_as_by_value() {
     for book in [OrderBook::new(), book_k(), full_book()] {
         for (side, volume) in [(Side::Bid, book.total_bid_volume()), (Side::Ask, book.total_ask_volume())] {
             assert_eq!(volume.map(Answer::Number), book.ask(Question::TotalVolume(side)));

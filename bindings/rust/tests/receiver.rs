@@ -101,8 +101,9 @@ fn a_short_buffer_keeps_its_numbers() {
 
 #[test]
 fn malformed_receivers() {
-    let no_book = OrderBook { asks: book_k().bids, ..book_k() };
-    for receiver in [Receiver { state: 2, book: book_k() }, Receiver { state: 1, book: no_book }, Receiver { state: 0, book: no_book }] {
+    let no_book = || OrderBook { asks: book_k().bids, ..book_k() };
+    for (state, book) in [(2, book_k()), (1, no_book()), (0, no_book())] {
+        let receiver = Receiver { state, book };
         assert_eq!(receiver.best_bid(), Err(Error::NotARecord));
         assert_eq!(receiver.depth_at(Side::Bid, 0), Err(Error::NotARecord));
         assert_eq!(receiver.top_bids(1), Err(Error::NotARecord));

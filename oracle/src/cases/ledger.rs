@@ -90,6 +90,12 @@ fn turnovers() -> Vec<Case> {
             ("0, 0: cash 1003, -1 at 2 realized 1", "0, 0: cash 1003, -1 at 1 realized 1"),
         ),
         case(
+            "buy 1 at 1, sell 2 at 2, buy 1 at 2",
+            1000,
+            &[bought(1, 1, 0), sold(2, 2, 0), bought(1, 2, 0)],
+            ("0, 0, 0: cash 1001, 0 at 0 realized 1", "0, 0, 0: cash 1001, 0 at 0 realized 0"),
+        ),
+        case(
             "buy 2 at 100, then sell 3 at 90",
             1000,
             &[bought(2, 100, 0), sold(3, 90, 0)],
@@ -263,6 +269,7 @@ fn singles() -> Vec<Case> {
         unrealized("checked_unrealized_pnl of a symbol traded and flat", &flat, 3, 5, same("0 0")),
         unrealized("checked_unrealized_pnl of symbol 32", &[], 32, 5, ("2", "no position")),
         unrealized("checked_unrealized_pnl of 2 short at 100, price 90", &[sold(2, 100, 0)], 3, 90, same("0 20")),
+        unrealized("checked_unrealized_pnl of 1 at 1 and 1 at 2, price 2", &[bought(1, 1, 0), bought(1, 2, 0)], 3, 2, ("0 2", "0 1")),
         unrealized("checked_unrealized_pnl at price 0", &flat, 3, 0, ("2", "(no such value can be made)")),
         named(),
     ]

@@ -74,6 +74,7 @@ fn sequence_word() -> usize {
     }
     let words = std::mem::size_of::<OrderBook>() / 8;
     let start = &book as *const OrderBook as *const u64;
+    // SAFETY: each word lies within the book, which is aligned for it. Padding would be read for what it holds: this is for tests alone.
     let found: Vec<usize> = (0..words).filter(|&word| unsafe { start.add(word).read_volatile() } == MARK).collect();
     assert_eq!(found.len(), 1, "the book's sequence must be found in one place");
     found[0]
@@ -83,6 +84,7 @@ fn sequence_word() -> usize {
 pub fn set_sequence(book: &mut OrderBook, sequence: u64) {
     thread_local!(static WORD: usize = sequence_word());
     let word = WORD.with(|word| *word);
+    // SAFETY: the word lies within the book, and every number is a sequence.
     unsafe { (book as *mut OrderBook as *mut u64).add(word).write_volatile(sequence) };
     assert_eq!(book.sequence(), sequence, "the book's sequence must have been set");
 }

@@ -7,7 +7,7 @@ use crate::said::Said;
 use wermazul::{BookDelta, DeltaAction, Fill as OurFill, OrderBook, PositionLedger};
 
 pub fn apply(book: &mut OrderBook, offered: &Delta) -> Said {
-    let before = *book;
+    let before = book.clone();
     let delta = mutants::delta(book, offered);
     let action = if delta.action == SET { DeltaAction::Set } else { DeltaAction::Remove };
     let said = told(book.apply_delta(BookDelta {
@@ -42,7 +42,7 @@ pub fn ask(call: &Call, book: &OrderBook, asked: &Asked) -> Said {
 }
 
 pub fn fill(ledger: &mut PositionLedger, fill: &Fill) -> Said {
-    let before = *ledger;
+    let before = ledger.clone();
     let said = told(ledger.apply_fill(OurFill {
         symbol: fill.symbol,
         side: side_of(fill.side),

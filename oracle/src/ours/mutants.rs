@@ -196,7 +196,7 @@ pub fn filled(before: &PositionLedger, ledger: &mut PositionLedger, fill: &Fill,
         ledger.cash -= 1;
     }
     if planted("zero-cash-refused") && fill.side != ASK && ledger.cash == 0 {
-        *ledger = *before;
+        *ledger = before.clone();
         return Said::of(8, &[Decimal::from(fill.charge()), before.cash.into()]);
     }
     said

@@ -86,6 +86,10 @@ impl ArrayBook {
         self.side(bid).quantities.iter().map(|&quantity| u64::from(quantity)).sum()
     }
 
+    fn best_bid(&self) -> Option<(u32, u32)> {
+        self.bids.best()
+    }
+
     fn best_quote(&self) -> Option<[(u32, u32); 2]> {
         Some([self.bids.best()?, self.asks.best()?])
     }

@@ -59,6 +59,10 @@ fn list(answer: Vec<PriceLevel>) -> Vec<(u32, u32)> {
     answer.into_iter().map(pair).collect()
 }
 
+fn both((bids, asks): (Vec<PriceLevel>, Vec<PriceLevel>)) -> Vec<(u32, u32)> {
+    bids.into_iter().chain(asks).map(pair).collect()
+}
+
 fn quote(answer: Option<(PriceLevel, PriceLevel)>) -> Option<Vec<(u32, u32)>> {
     answer.map(|(bid, ask)| vec![pair(bid), pair(ask)])
 }
@@ -81,5 +85,8 @@ contestant! {
         Imbalance => book.imbalance(), number;
         PriceAtVolume => book.price_at_volume(with.side, with.volume), |it: Option<Price>| number(it.map(|price| price.value()));
         TopBids => book.top_bids(10), |it| levels(Some(list(it)));
+        Snapshot => book.snapshot(5), |it| levels(Some(both(it)));
+        BestBid => book.best_bid(), |it: Option<PriceLevel>| levels(it.map(|level| vec![pair(level)]));
+        Sequence => book.sequence(), |it| number(Some(it));
     }
 }

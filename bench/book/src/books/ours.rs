@@ -19,7 +19,7 @@ fn side_of(bid: bool) -> Side {
     }
 }
 
-fn delta_of(it: &inputs::Delta) -> BookDelta {
+pub fn delta_of(it: &inputs::Delta) -> BookDelta {
     let action = if it.remove { DeltaAction::Remove } else { DeltaAction::Set };
     BookDelta { side: side_of(it.bid), price: it.price, quantity: it.quantity, action, sequence: it.sequence }
 }
@@ -41,6 +41,10 @@ fn pair(level: PriceLevel) -> (u32, u32) {
 
 fn list(answer: Result<Vec<PriceLevel>, Error>) -> Option<Vec<(u32, u32)>> {
     answer.ok().map(|list| list.into_iter().map(pair).collect())
+}
+
+fn both(answer: Result<(Vec<PriceLevel>, Vec<PriceLevel>), Error>) -> Option<Vec<(u32, u32)>> {
+    answer.ok().map(|(bids, asks)| bids.into_iter().chain(asks).map(pair).collect())
 }
 
 fn quote(answer: Result<Quote, Error>) -> Option<Vec<(u32, u32)>> {
@@ -74,16 +78,8 @@ contestant! {
         Imbalance => book.imbalance(), |it| ratio(over(it));
         PriceAtVolume => book.price_at_volume(with.side, with.volume), |it: Result<u32, _>| number(it.ok());
         TopBids => book.top_bids(10), |it| levels(list(it));
+        Snapshot => book.snapshot(5), |it| levels(both(it));
+        BestBid => book.best_bid(), |it: Result<PriceLevel, _>| levels(it.ok().map(|level| vec![pair(level)]));
+        Sequence => book.sequence(), |it: Result<u64, _>| number(it.ok());
     }
-}
-
-// Deltas by the call that takes the whole record by value and gives it back.
-contestant! {
-    ByValue: OrderBook,
-    new OrderBook::new(),
-    delta delta_of -> BookDelta,
-    question question_of -> Question,
-    take |book, delta| book.apply_delta_by_value(delta),
-    levels |book, bid| all(book, bid),
-    ask |book, with| {}
 }

@@ -91,6 +91,9 @@ macro_rules! plain_contestant {
                 Imbalance => imbalance(book.total_volume(true), book.total_volume(false)), ratio;
                 PriceAtVolume => book.price_at_volume(with.bid, with.volume), number;
                 TopBids => book.top(true, 10), |it| levels(Some(it));
+                Snapshot => (book.top(true, 5), book.top(false, 5)), |(bids, asks): (Vec<_>, Vec<_>)| levels(Some([bids, asks].concat()));
+                BestBid => book.best_bid(), |it: Option<(u32, u32)>| levels(it.map(|level| vec![level]));
+                Sequence => book.sequence, |it| number(Some(it));
             }
         }
 
