@@ -1,8 +1,8 @@
 #!/usr/bin/env python3
 """Random feeds through the feed program: feeds.py [COUNT [SEED]].
 
-Each feed is a sender's history (deltas offered to a plain book, those accepted sent, snapshots between), then loss, repeats, moves and
-damage. What the program prints is held against a plain second reading of the rules, byte for byte, and a live end state against the
+Each feed is a sender's history (deltas offered to a plain book, those accepted sent, snapshots between; a third of the senders are not honest
+and send some that their book refused), then loss, repeats, moves and damage. What the program prints is held against a plain second reading of the rules, byte for byte, and a live end state against the
 sender's own book after that number. The program is run by run-feed, which builds it the first time.
 """
 import random
@@ -112,7 +112,7 @@ def received(data):
 def sent(rng):
     """The lines of a sender, and its book after each number."""
     books, lines = [[{}, {}]], []
-    wide = rng.choice([6, 40, 300])
+    wide, honest = rng.choice([6, 40, 300]), rng.randrange(3) > 0
     for _ in range(rng.randrange(1, 120)):
         side, remove = rng.randrange(2), rng.randrange(4) == 0
         price = 1000 + rng.randrange(-wide, 5) if side == 0 else 1000 + rng.randrange(-4, wide)
@@ -121,6 +121,8 @@ def sent(rng):
         if new is not None:
             books.append(new)
             lines.append(delta_line(len(books) - 1, side, int(remove), price, quantity))
+        elif not honest and rng.randrange(3) == 0:
+            lines.append(delta_line(len(books), side, int(remove), price, quantity))
         if rng.randrange(8) == 0 or not lines:
             lines.append(snapshot_line(len(books) - 1, books[-1]))
     return lines, books
@@ -136,15 +138,19 @@ def arrived(rng, lines):
             out.insert(rng.randrange(len(out) + 1), text)
     for at, text in enumerate(out):
         if rng.random() < rate:
-            digits, kind = text[:-1], rng.randrange(3)
+            digits, kind = text[:-1], rng.randrange(5)
             if kind == 0:
                 i = rng.randrange(len(digits))
                 other = rng.choice([c for c in range(256) if c not in (10, digits[i])])
                 out[at] = digits[:i] + bytes([other]) + digits[i + 1 :] + b"\n"
             elif kind == 1:
                 out[at] = digits[: rng.randrange(1, len(digits))] + b"\n"
-            else:
+            elif kind == 2:
                 out[at] = digits
+            elif kind == 3:
+                out[at] = digits + b"\r\n"
+            else:
+                out[at] = digits.lower() + b"\n"
     return b"".join(out)
 
 
