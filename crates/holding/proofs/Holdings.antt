@@ -11,7 +11,8 @@ use Rattle.amount.proofs.Integers.{negated-size, add-size, sub-size, times-size
 use Rattle.types.specs.Limits.{sizedWithin, isPrice, isQuantity, maxPosition, maxMoney, symbols}
 use Rattle.types.specs.declared.Side.{Side}
 use Rattle.types.specs.declared.Side.the-variants.{Bid, Ask}
-use Rattle.holding.specs.Holding.{isAverage, isPosition, isFill, signed, gain, closedLots, charge, PositionIn, FillIn}
+use Rattle.holding.specs.Holding.{isAverage, isPosition, isFill, signed, gain, closedLots, charge}
+use Rattle.holding.specs.Inner.Sizes.{PositionIn, FillIn}
 use Rattle.holding.specs.declared.Position.{Position}
 use Rattle.holding.specs.declared.Fill.{Fill}
 

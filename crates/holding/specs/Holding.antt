@@ -1,6 +1,6 @@
 -- One position: its limits, and what a fill makes of it. Averages, remainders and closed lots are functions of natural numbers: whether
 -- the fill increases the position, the lots held and their average, the fill's lots and its price. Signs come in after them.
-use Prim.Native.Nat.{ℕ, _+_, _*_, _/_, _%_, _≤_, _<_, min}
+use Prim.Native.Nat.{ℕ, _+_, _*_, _/_, _%_, min}
 use mathlib.Core.Bool.{Bool, not, cond, _&&_}
 use lib.Dec.{ltb, eqb}
 use lib.IntN.{ℤ, pos, negℤ, natAbs, _+ℤ_, _-ℤ_, _*ℤ_}
@@ -70,16 +70,3 @@ positionAfter p f =
       average = averageAfter grown old (p .average) (f .quantity) (f .price);
       realized = amount ((p .realized .value +ℤ gain (f .side) (p .average) (f .price) *ℤ pos (closedLots grown old (f .quantity))) -ℤ f .commission .value);
     }
-
--- the sizes in a position, as inner helpers ask for them
-pub record PositionIn (p : Position) : Type 0 where
-  pub quantity-in : natAbs (p .quantity .value) ≤ 1000000000
-  pub average-in : p .average ≤ 100000000
-  pub realized-in : natAbs (p .realized .value) ≤ 4000000000000000000
-
--- the sizes in a fill, as inner helpers ask for them
-pub record FillIn (f : Fill) : Type 0 where
-  pub symbol-in : f .symbol < 32
-  pub quantity-in : f .quantity ≤ 1000000000
-  pub price-in : f .price ≤ 100000000
-  pub commission-in : natAbs (f .commission .value) ≤ 1000000000000000

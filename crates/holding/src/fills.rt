@@ -2,7 +2,8 @@
 ghost use mathlib.Core.Path.{_≡_};
 ghost use Prim.Native.Nat.{_<_, _≤_, _/_};
 ghost use Rattle.amount.specs.Whole.{amount};
-ghost use Rattle.holding.specs.Holding.{signed, grows, averageAfter, closedLots, gain, charge, positionAfter, PositionIn, FillIn};
+ghost use Rattle.holding.specs.Holding.{signed, grows, averageAfter, closedLots, gain, charge, positionAfter};
+ghost use Rattle.holding.specs.Inner.Sizes.{PositionIn, FillIn};
 use crate::Fill;
 use crate::Position;
 use amount::Amount;

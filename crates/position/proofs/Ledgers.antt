@@ -5,7 +5,8 @@ use mathlib.Core.Bool.{true, and-eq-true-iff}
 use borrow.Author.Tests.{leb-true}
 use lib.IntN.{natAbs}
 use Rattle.amount.proofs.Sums.{all-at}
-use Rattle.holding.specs.Holding.{isPosition, PositionIn}
+use Rattle.holding.specs.Holding.{isPosition}
+use Rattle.holding.specs.Inner.Sizes.{PositionIn}
 use Rattle.position.specs.Ledger.{positionAt, isPositionAt, isLedger, isMoney}
 use Rattle.position.specs.declared.PositionLedger.{PositionLedger}
 use Rattle.holding.proofs.Holdings.{position-in}

@@ -3,7 +3,7 @@
 ghost use mathlib.Core.Path.{_≡_};
 ghost use mathlib.Core.Bool.{true};
 ghost use Rattle.amount.specs.Sums.{allTo};
-ghost use Rattle.holding.specs.Holding.{FillIn};
+ghost use Rattle.holding.specs.Inner.Sizes.{FillIn};
 ghost use Rattle.position.specs.Ledger.{isPositionAt, isLedger, changeOf, fresh, created, isShort, isBearable, settled, booked, deposited};
 use crate::Booked;
 use crate::PositionLedger;

@@ -13,7 +13,7 @@ use Rattle.amount.proofs.Integers.{add-parts, one-part, size-parts, pos-above, 
 use Rattle.amount.proofs.Identities.{as-difference, difference-same, ring}
 use Rattle.amount.proofs.Sums.{all-at}
 use Rattle.types.specs.Limits.{symbols}
-use Rattle.holding.specs.Holding.{PositionIn}
+use Rattle.holding.specs.Inner.Sizes.{PositionIn}
 use Rattle.holding.specs.declared.Position.{Position}
 use Rattle.pricing.specs.Prices.{isPriceAt, arePrices, measured}
 use Rattle.pricing.specs.declared.Measure.{Measure}

@@ -3,7 +3,7 @@
 ghost use mathlib.Core.Path.{_≡_};
 ghost use Prim.Native.Nat.{_<_, _≤_};
 ghost use Rattle.amount.specs.Whole.{amount};
-ghost use Rattle.holding.specs.Holding.{PositionIn};
+ghost use Rattle.holding.specs.Inner.Sizes.{PositionIn};
 ghost use Rattle.pricing.specs.Prices.{arePrices, measured, isOpen, isNeutral};
 use amount::Amount;
 use holding::Position;
