@@ -1,4 +1,4 @@
-//! The paper's tests of records and inputs, written a second time and plainly: what a difference is classed by.
+//! Our tests of records and inputs, written a second time and plainly: what a difference is classed by.
 use crate::forms::*;
 use wermazul::{Levels, OrderBook, Position, PositionLedger};
 

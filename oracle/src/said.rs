@@ -1,8 +1,8 @@
-//! What a call answered, from either side, in one form: the paper's number and the values beside it, as Decimals.
+//! What a call answered, from either side, in one form: the number of docs/ANSWERS.md and the values beside it, as Decimals.
 use rust_decimal::Decimal;
 use std::fmt;
 
-/// The original's own endings, which the paper does not number.
+/// The original's own endings, which have no number here.
 pub const PANICKED: u64 = 100;
 pub const UNMADE: u64 = 101;
 

@@ -1,4 +1,4 @@
--- The statements of demand 3, proved.
+-- What a receiver shows of a sender, proved.
 use Prim.Native.Nat.{ℕ, _+_, _≤_}
 use mathlib.Core.Bool.{true}
 use mathlib.Core.Option.{Option, none, some}

@@ -1,4 +1,4 @@
--- Demand 3: what a receiver shows of a sender, over the bytes that come. It is stated of what the calls promise and of nothing beside it:
+-- What a receiver shows of a sender, over the bytes that come. It is stated of what the calls promise and of nothing beside it:
 -- `applied` is what apply_delta answers, `heard` is take_line on line after line from `start`, and `encode` is the line that is written.
 use Prim.Native.Nat.{ℕ, zero, suc, _+_, _≤_}
 use mathlib.Core.Option.{Option, none, some}
@@ -76,7 +76,7 @@ module _ (ds : List BookDelta) where
 
   -- ── the channel ──
 
-  -- any of its frames, in any order, any of them missing or there again, each as sent or damaged in one of the paper's ways
+  -- any of its frames, in any order, any of them missing or there again, each as sent or damaged in one of the ways of docs/FEED.md
   abbrev pub Comes : List Piece → Type 0
   Comes [] = Unit {0}
   Comes (p ∷ ps) = IsDamage p × Sends (frameOf p) × Comes ps

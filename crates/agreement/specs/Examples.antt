@@ -1,4 +1,4 @@
--- A sender at work, so that the hypotheses of demand 3 are seen to be met: what it sends, first and last, and lines damaged in each way.
+-- A sender at work, so that the hypotheses of Agreement are seen to be met: what it sends, first and last, and lines damaged in each way.
 use native.Mathlib.Omega.{arith}
 use mathlib.Core.Path.{_≡_, refl, sym}
 use mathlib.Core.List.{List, [], _∷_, append-nil}

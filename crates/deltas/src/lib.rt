@@ -1,4 +1,4 @@
-// A delta: what it comes to on a side, in the paper's order of refusals, and how it is done to that side's rows. The side is lent as its two
+// A delta: what it comes to on a side, in the order of the refusals' numbers, and how it is done to that side's rows. The side is lent as its two
 // rows, with the counts beside them; a delta is decided before anything is written, and a refusal's step leaves every row alone.
 ghost use mathlib.Core.Path.{_≡_};
 ghost use mathlib.Core.Bool.{true};
@@ -166,7 +166,7 @@ fn action_step(
     }
 }
 
-// What a delta to a side comes to, in the paper's order of refusals.
+// What a delta to a side comes to, in the order of the refusals' numbers.
 fn decide(
     side: Side,
     prices: &[u32; 128],

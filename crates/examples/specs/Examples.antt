@@ -1,4 +1,4 @@
--- The paper's worked examples, those marked P, as one statement over one list of inputs and answers, book and ledger together. What answers is
+-- The worked examples as one statement over one list of inputs and answers, book and ledger together. What answers is
 -- only what the calls are proved to give: `bookAsk` (questions::ask), `applied` (apply_delta), `created` (PositionLedger::new), `booked` (apply_fill).
 use Prim.Native.Nat.{ℕ}
 use mathlib.Core.Path.{_≡_, refl}
@@ -70,7 +70,7 @@ answered (asked q) = replied (bookAsk (bookK 5) q)
 answered (offered d) = ofBook (B.applied (bookK 5) d)
 answered (traded cash fs) = ofLedger (thenFills (L.created cash) fs)
 
--- ── the examples, in the paper's words ──
+-- ── the examples, in words ──
 
 -- a delta: action, side, price, quantity, sequence
 abbrev delta : DeltaAction → Side → ℕ → ℕ → ℕ → BookDelta
@@ -104,7 +104,7 @@ levelsSame r n = left r (bidsOf (bookK 5)) (asksOf (bookK 5)) n
 abbrev minus : ℕ → ℤ
 minus n = negℤ (pos n)
 
--- an input and the answer that the paper gives
+-- an input and the answer that is expected
 pub record Example : Type 0 where
   pub input : Input
   pub output : Output

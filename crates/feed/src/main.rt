@@ -1,4 +1,4 @@
-// The feed program, run here on the paper's four lines.
+// The feed program, run here on the four lines of examples/four.feed.
 fn main() {
     feeding::take();
 }

@@ -1,4 +1,4 @@
--- Lines of frames, computed: those of the paper's four lines, a snapshot with levels, a Remove, and lines that are damaged.
+-- Lines of frames, computed: those of the four lines of examples/four.feed, a snapshot with levels, a Remove, and lines that are damaged.
 use mathlib.Core.Path.{_≡_, refl}
 use mathlib.Core.Option.{none, some}
 use mathlib.Core.List.{List, [], _∷_}

@@ -1,4 +1,4 @@
--- Book K of the paper: what the listings write of it, and answer.
+-- Book K: what the listings write of it, and answer.
 use mathlib.Core.Path.{_≡_, refl}
 use mathlib.Core.List.{[], _∷_}
 use Rattle.types.specs.Replies.{done, refused}

@@ -1,4 +1,4 @@
--- A step carried out on its side's rows is the paper's change: the edit fits the rows, and the tables, the sequence and the reply that
+-- A step carried out on its side's rows is the change that `applied` defines: the edit fits the rows, and the tables, the sequence and the reply that
 -- it leaves are those of `tried`.
 use Prim.Native.Nat.{ℕ, _+_, _≤_, _<_}
 use native.Mathlib.Omega.{arith}

@@ -1,4 +1,4 @@
--- Deltas at work: the paper's examples on book K, and the edges of each refusal, by computation.
+-- Deltas at work: the worked examples on book K, and the edges of each refusal, by computation.
 use Prim.Native.Nat.{ℕ}
 use mathlib.Core.Path.{_≡_, refl}
 use mathlib.Core.List.{List, [], _∷_, _++_}

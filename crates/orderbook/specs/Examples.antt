@@ -1,4 +1,4 @@
--- Book K of the paper, which is a book.
+-- Book K, the book of the worked examples, which is a book.
 use Prim.Native.Nat.{ℕ}
 use mathlib.Core.Bool.{true}
 use mathlib.Core.Path.{_≡_, refl}

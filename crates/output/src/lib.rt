@@ -1,4 +1,4 @@
-// Answers on standard output: the paper's number of the answer, then each value after a space. Programs print by these functions, and which
+// Answers on standard output: the number of the answer, then each value after a space. Programs print by these functions, and which
 // values an answer carries is taken from `told`. No contract can say what is written: they are proved safe and ending, and run.
 use amount::Amount;
 use libc::STDOUT_FILENO;

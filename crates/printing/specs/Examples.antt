@@ -1,4 +1,4 @@
--- The paper's four lines, as they are printed; and the texts of the two end states.
+-- The four lines of examples/four.feed, as they are printed; and the texts of the two end states.
 use Prim.Native.Nat.{ℕ}
 use mathlib.Core.Path.{_≡_, refl}
 use mathlib.Core.List.{List, [], _∷_, map}

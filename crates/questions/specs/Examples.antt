@@ -1,4 +1,4 @@
--- Every question computed: on book K of the paper, on the empty book, and on a record that is no book, its best prices touching.
+-- Every question computed: on book K, the book of the worked examples, on the empty book, and on a record that is no book, its best prices touching.
 use mathlib.Core.Path.{_≡_, refl}
 use mathlib.Core.Bool.{true, false}
 use mathlib.Core.List.{[], _∷_}

@@ -1,4 +1,4 @@
--- Demand 2 on a book: for any quantity above zero, within its limits, that the asks can fill, vwap_for_qty on Ask and price_impact on Bid
+-- One price on a book: for any quantity above zero, within its limits, that the asks can fill, vwap_for_qty on Ask and price_impact on Bid
 -- give the same reply, the price of buying it: the cost of filling it from the asks best first, over the quantity. Likewise vwap_for_qty on
 -- Bid and price_impact on Ask are the price of selling it to the bids.
 use Prim.Native.Nat.{ℕ, _≤_, _<_}

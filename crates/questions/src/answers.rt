@@ -59,7 +59,7 @@ impl Answer {
         }
     }
 
-    // The paper's number of the answer, and what it carries.
+    // The number of the answer, and what it carries.
     pub fn told(self) -> Told
         ensures { λ r. ⌜ r ≡ tell valuesIn (replyOf self) ⌝ }
     {

@@ -89,7 +89,7 @@ no-receiver : cameTo (taken crossed line2) ≡ (1, Live, 5)
 unfolding taken sidesFit wellFormed inOrder leads every bestOf isApart
 no-receiver = refl
 
--- the paper's four lines from the start: 0, 0, 14, 12, and live with bid 100×5 at 1
+-- the four lines of examples/four.feed from the start: 0, 0, 14, 12, and live with bid 100×5 at 1
 four-lines :
     (map cameTo (turns start (line1 ∷ line2 ∷ line2 ∷ (10 ∷ []) ∷ [])) ≡ (0, Live, 0) ∷ (0, Live, 1) ∷ (14, Live, 1) ∷ (12, Live, 1) ∷ []) ×
     (heard start (line1 ∷ line2 ∷ line2 ∷ (10 ∷ []) ∷ []) ≡

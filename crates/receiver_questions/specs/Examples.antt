@@ -1,4 +1,4 @@
--- A receiver that holds book K of the paper: its answers live and waiting.
+-- A receiver that holds book K: its answers live and waiting.
 use mathlib.Core.Path.{_≡_, refl}
 use mathlib.Core.List.{[], _∷_}
 use Rattle.types.specs.Replies.{done, refused}

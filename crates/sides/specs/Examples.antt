@@ -1,4 +1,4 @@
--- Book K of the paper: bids 100×5, 99×0, 98×10; asks 101×4, 103×6. What is answered of it, computed.
+-- Book K, the book of the worked examples: bids 100×5, 99×0, 98×10; asks 101×4, 103×6. What is answered of it, computed.
 use mathlib.Core.Path.{_≡_, refl}
 use mathlib.Core.Bool.{true, false}
 use mathlib.Core.List.{List, [], _∷_}

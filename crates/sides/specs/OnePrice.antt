@@ -1,4 +1,4 @@
--- Demand 2: for any quantity above zero that a side's levels can fill, the price of trading it is one definition, by either path.
+-- One price: for any quantity above zero that a side's levels can fill, the price of trading it is one definition, by either path.
 -- vwap_for_qty walks the side it names and price_impact the other, so both are asked here of the levels that they walk.
 use Prim.Native.Nat.{ℕ, _≤_, _<_}
 use native.Mathlib.Omega.{arith}

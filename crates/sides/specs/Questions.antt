@@ -1,4 +1,4 @@
--- The questions of a book, each by one definition over the levels of its sides, best first, in the paper's numbers.
+-- The questions of a book, each by one definition over the levels of its sides, best first, in the numbers of docs/ANSWERS.md.
 -- `bids` and `asks` are the levels of the sides; `ls` are the levels of one side. That the record is a book is tested above, by the book.
 use Prim.Native.Nat.{ℕ, _+_, _-_, _*_}
 use mathlib.Core.Bool.{Bool, not, cond, _&&_}

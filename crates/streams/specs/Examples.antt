@@ -1,4 +1,4 @@
--- Streams of the paper's lines, and each way of damage at its edges.
+-- Streams of such lines as examples/four.feed has, and each way of damage at its edges.
 use mathlib.Core.Path.{_≡_, refl}
 use mathlib.Core.Option.{none, some}
 use mathlib.Core.List.{[], _∷_, _++_, map}

@@ -1,4 +1,4 @@
--- Answers as numbers: the paper's number of an answer, and its values, each as a size and a sign.
+-- Answers as numbers: the number of an answer (docs/ANSWERS.md), and its values, each as a size and a sign.
 use Prim.Native.Nat.{ℕ}
 use mathlib.Core.Bool.{Bool, cond}
 use mathlib.Core.List.{List, [], _∷_}

@@ -1,4 +1,4 @@
-// Answers as numbers: the paper's number of an answer and its values, each as a size and a sign. The number and the values of each refusal
+// Answers as numbers: the number of an answer (docs/ANSWERS.md) and its values, each as a size and a sign. The number and the values of each refusal
 // stand here once, for the programs that print them and for callers that are not Rattle.
 pub mod answers; // answers.rt: each kind of answer as a Told
 
@@ -9,7 +9,7 @@ pub struct Whole {
     pub negative: bool,
 }
 
-// The paper's number of an answer, and the values that it carries, at most four; those behind `count` are 0.
+// The number of an answer, and the values that it carries, at most four; those behind `count` are 0.
 #[repr(C)]
 pub struct Told {
     pub number: u64,

@@ -73,7 +73,7 @@ fn averages() -> Vec<Case> {
             ("0, 0: cash 9997, 2 at 1 realized 0", "0, 0: cash 9997, 2 at 1.5 realized 0"),
         ),
         case(
-            "the paper's longer cash example, as a history",
+            "the longer worked example of cash, as a history",
             10_000,
             &longer,
             ("0, 0, 0, 0: cash 10205, -2 at 90 realized 27", "0, 0, 0, 0: cash 10205, -2 at 90 realized 25"),

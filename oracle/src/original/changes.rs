@@ -28,7 +28,7 @@ pub fn quantity_of(quantity: u32) -> Quantity {
     Quantity::new(Decimal::from(quantity)).expect("no quantity here is negative")
 }
 
-/// An error as the paper's number and what it carries.
+/// An error as our number and what it carries.
 pub fn refused(error: &FinError) -> Said {
     match error {
         FinError::SequenceMismatch { expected, got } => Said::of(4, &[Decimal::from(*expected), Decimal::from(*got)]),

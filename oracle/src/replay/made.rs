@@ -1,4 +1,4 @@
-//! What the list is made of: the paper's examples, the limits, random books and histories.
+//! What the list is made of: the worked examples, the limits, random books and histories.
 use super::Replay;
 use crate::accounts;
 use crate::calls::CALLS;
@@ -9,7 +9,7 @@ use std::collections::BTreeSet;
 use std::fs;
 use std::path::Path;
 
-/// The paper's book K and its examples.
+/// Book K and its examples.
 fn book_k(replay: &mut Replay) {
     replay.book();
     for (side, price, quantity) in [(BID, 100, 5), (BID, 99, 0), (BID, 98, 10), (ASK, 101, 4), (ASK, 103, 6)] {
@@ -76,7 +76,7 @@ fn random_book(replay: &mut Replay, random: &mut Random) {
     }
 }
 
-/// The paper's examples of cash and neutrality, and money at its limits.
+/// The worked examples of cash and neutrality, and money at its limits.
 fn fixed_ledgers(replay: &mut Replay) {
     let fill = |symbol, side, quantity, price, commission| Fill { symbol, side, quantity, price, commission };
     replay.ledger(100);

@@ -5,7 +5,7 @@
 //! `8 NEGATIVE SIZE` deposit; `9 SYMBOL PRICE` checked_unrealized_pnl; `10 SYMBOL PRICE` sets one of 32 prices, all 0 at first;
 //! `11 WORTH` a worth at those prices.
 //!
-//! Answers: the paper's number, then its values. A quotient is cut to 6 places, a listing is the places filled and the numbers, a taken
+//! Answers: the number of docs/ANSWERS.md, then its values. A quotient is cut to 6 places, a listing is the places filled and the numbers, a taken
 //! fill is 0, the symbol's quantity, average and realized profit, and cash.
 mod made;
 

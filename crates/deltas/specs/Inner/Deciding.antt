@@ -1,4 +1,4 @@
--- What code decides before it writes: the refusal of a delta, or the edit of its side's rows. That a step, carried out, is the paper's change
+-- What code decides before it writes: the refusal of a delta, or the edit of its side's rows. That a step, carried out, is the change that `applied` defines
 -- is a law of crate orderbook.
 use Prim.Native.Nat.{ℕ, _+_}
 use mathlib.Core.Bool.{Bool, cond, _&&_}
