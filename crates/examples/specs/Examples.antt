@@ -25,10 +25,10 @@ use Rattle.orderbook.specs.Book.{bidsOf, asksOf, sidesFit}
 use Rattle.orderbook.specs.Apply as B
 use Rattle.orderbook.specs.Examples.{bookK}
 use Rattle.questions.specs.declared.Question.{Question}
-use Rattle.sides.specs.declared.asked.SideNumber.the-variants.{PriceAtVolume}
-use Rattle.sides.specs.declared.asked.TopRatio.the-variants.{WeightedMid}
-use Rattle.sides.specs.declared.asked.VolumeRatio.the-variants.{Imbalance}
-use Rattle.sides.specs.declared.asked.Trade.the-variants.{VwapForQty, PriceImpact}
+use Rattle.asked.specs.declared.SideNumber.the-variants.{PriceAtVolume}
+use Rattle.asked.specs.declared.TopRatio.the-variants.{WeightedMid}
+use Rattle.asked.specs.declared.VolumeRatio.the-variants.{Imbalance}
+use Rattle.asked.specs.declared.Trade.the-variants.{VwapForQty, PriceImpact}
 use Rattle.questions.specs.declared.Question.the-variants.{OfSide, OfTops, OfVolumes, Traded}
 use Rattle.questions.specs.Questions.{weightedMid, imbalance, vwapForQty, priceImpact, priceAtVolume}
 use Rattle.questions.specs.Asked.{Value, number, ratio, bookAsk}

@@ -3,9 +3,9 @@ ghost use mathlib.Core.Path.{_≡_};
 ghost use Rattle.quotient.specs.Over.{replyOfRatio};
 ghost use Rattle.questions.specs.Questions.{imbalance, depthRatio, bidAskRatio, askBidRatio, bidDepthSkew};
 use crate::kinds::volume_ratio;
+use asked::VolumeRatio;
 use orderbook::OrderBook;
 use quotient::Ratio;
-use sides::asked::VolumeRatio;
 
 // The signed difference of the sides' quantities, over their sum.
 pub fn imbalance(book: OrderBook) -> Ratio

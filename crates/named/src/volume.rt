@@ -5,10 +5,10 @@ ghost use Rattle.questions.specs.Questions.{levelCount, totalLevels, sequenceOf
 use crate::kinds::flag;
 use crate::kinds::number;
 use crate::kinds::side_number;
+use asked::SideNumber;
 use orderbook::OrderBook;
 use questions::kinds::BookFlag;
 use questions::kinds::BookNumber;
-use sides::asked::SideNumber;
 use types::FlagAnswer;
 use types::NumberAnswer;
 use types::Price;

@@ -16,15 +16,15 @@ use Rattle.levels.proofs.Tables.{levels-few}
 use Rattle.walks.specs.Walk.{totalOf}
 use Rattle.sides.specs.Best.{bestOf}
 use Rattle.sides.specs.Questions.{bestTotal}
-use Rattle.sides.specs.Inner.Kinds as S
-use Rattle.sides.specs.declared.asked.SideNumber.{SideNumber}
-use Rattle.sides.specs.declared.asked.SideNumber.the-variants as N
-use Rattle.sides.specs.declared.asked.TopRatio.{TopRatio}
-use Rattle.sides.specs.declared.asked.TopRatio.the-variants as T
-use Rattle.sides.specs.declared.asked.VolumeRatio.{VolumeRatio}
-use Rattle.sides.specs.declared.asked.VolumeRatio.the-variants as R
-use Rattle.sides.specs.declared.asked.Trade.{Trade}
-use Rattle.sides.specs.declared.asked.Trade.the-variants as P
+use Rattle.asked.specs.Inner.Kinds as S
+use Rattle.asked.specs.declared.SideNumber.{SideNumber}
+use Rattle.asked.specs.declared.SideNumber.the-variants as N
+use Rattle.asked.specs.declared.TopRatio.{TopRatio}
+use Rattle.asked.specs.declared.TopRatio.the-variants as T
+use Rattle.asked.specs.declared.VolumeRatio.{VolumeRatio}
+use Rattle.asked.specs.declared.VolumeRatio.the-variants as R
+use Rattle.asked.specs.declared.Trade.{Trade}
+use Rattle.asked.specs.declared.Trade.the-variants as P
 use Rattle.orderbook.specs.declared.OrderBook.{OrderBook}
 use Rattle.questions.specs.declared.kinds.BookNumber.{BookNumber}
 use Rattle.questions.specs.declared.kinds.BookNumber.the-variants as B

@@ -5,10 +5,10 @@ use lib.ListN.{getD}
 use mathlib.Core.List.{map}
 use Rattle.types.specs.Replies.{Reply, done, refused, refuse}
 use Rattle.types.specs.declared.Side.{Side}
-use Rattle.sides.specs.declared.asked.SideNumber.the-variants as N
-use Rattle.sides.specs.declared.asked.TopRatio.the-variants as T
-use Rattle.sides.specs.declared.asked.VolumeRatio.the-variants as R
-use Rattle.sides.specs.declared.asked.Trade.the-variants as P
+use Rattle.asked.specs.declared.SideNumber.the-variants as N
+use Rattle.asked.specs.declared.TopRatio.the-variants as T
+use Rattle.asked.specs.declared.VolumeRatio.the-variants as R
+use Rattle.asked.specs.declared.Trade.the-variants as P
 use Rattle.questions.specs.declared.kinds.BookNumber.the-variants as B
 use Rattle.questions.specs.declared.kinds.BookFlag.the-variants as F
 use Rattle.questions.specs.declared.Question.{Question}

@@ -7,14 +7,14 @@ ghost use Rattle.questions.specs.Questions.{best, bestQuote};
 ghost use Rattle.orderbook.specs.Lent.{lentBook};
 ghost use Rattle.questions.specs.Kinds.{bookNumber, sideNumber, topRatio, volumeRatio, tradePrice, bookFlag};
 ghost use Rattle.questions.specs.Inner.Walked.{walkedBy};
+use asked::SideNumber;
+use asked::TopRatio;
+use asked::Trade;
+use asked::VolumeRatio;
+use asked::depth;
 use deltas::Counts;
 use orderbook::rows;
 use quotient::Ratio;
-use sides::asked::SideNumber;
-use sides::asked::TopRatio;
-use sides::asked::Trade;
-use sides::asked::VolumeRatio;
-use sides::depth;
 use sides::top;
 use sides::volume;
 use types::FlagAnswer;
@@ -118,7 +118,7 @@ pub fn side_number<'a>(
     let prices = rows::row_of(side, bp, ap);
     let quantities = rows::row_of(side, bq, aq);
     let n = counts.of(side);
-    sides::asked::side_number(side, prices, quantities, n, question)
+    asked::side_number(side, prices, quantities, n, question)
 }
 
 pub fn top_ratio<'a>(
@@ -136,7 +136,7 @@ pub fn top_ratio<'a>(
     }
     let bid = top::best_of(bp, bq, counts.bids);
     let ask = top::best_of(ap, aq, counts.asks);
-    sides::asked::top_ratio(bid, ask, question)
+    asked::top_ratio(bid, ask, question)
 }
 
 pub fn volume_ratio<'a>(
@@ -155,7 +155,7 @@ pub fn volume_ratio<'a>(
     let depth = question.depth(types::MAX_LEVELS);
     let bid = volume::best_total(bp, bq, counts.bids, depth);
     let ask = volume::best_total(ap, aq, counts.asks, depth);
-    sides::asked::volume_ratio(bid, ask, question)
+    asked::volume_ratio(bid, ask, question)
 }
 
 // The side that a trade walks: its own for `vwap_for_qty`, the other one for `price_impact`.
@@ -189,7 +189,7 @@ pub fn trade_price<'a>(
     let prices = rows::row_of(taken, bp, ap);
     let quantities = rows::row_of(taken, bq, aq);
     let n = counts.of(taken);
-    sides::asked::trade_price(prices, quantities, n, trade)
+    asked::trade_price(prices, quantities, n, trade)
 }
 
 pub fn flag<'a>(

@@ -8,15 +8,15 @@ pub mod kinds; // kinds.rt: the questions of one kind, each kind by one function
 pub mod answers; // answers.rt: each kind of answer as an Answer, and an Answer as numbers
 pub mod numbered; // numbered.rt: the questions by their numbers
 
+use asked::SideNumber;
+use asked::TopRatio;
+use asked::Trade;
+use asked::VolumeRatio;
 use deltas::Counts;
 use kinds::BookFlag;
 use kinds::BookNumber;
 use orderbook::OrderBook;
 use quotient::Quotient;
-use sides::asked::SideNumber;
-use sides::asked::TopRatio;
-use sides::asked::Trade;
-use sides::asked::VolumeRatio;
 use types::PriceLevel;
 use types::Quote;
 use types::Refusal;

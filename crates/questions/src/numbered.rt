@@ -4,10 +4,10 @@ ghost use Rattle.questions.specs.Numbered.{questionNamed, replyOfQuestio
 use crate::Question;
 use crate::kinds::BookFlag;
 use crate::kinds::BookNumber;
-use sides::asked::SideNumber;
-use sides::asked::TopRatio;
-use sides::asked::Trade;
-use sides::asked::VolumeRatio;
+use asked::SideNumber;
+use asked::TopRatio;
+use asked::Trade;
+use asked::VolumeRatio;
 use types::Price;
 use types::Refusal;
 use types::Side;

@@ -12,7 +12,7 @@ use Rattle.orderbook.specs.Book.{sidesFit}
 use Rattle.orderbook.specs.Examples.{bookK}
 use Rattle.listings.specs.declared.Listing.the-variants.{Top, Between}
 use Rattle.listings.specs.Listed.{listed, woven}
-use Rattle.sides.specs.declared.asked.SideNumber.the-variants.{DepthAt}
+use Rattle.asked.specs.declared.SideNumber.the-variants.{DepthAt}
 use Rattle.questions.specs.Questions.{sequenceOf, depthAt}
 use Rattle.questions.specs.declared.kinds.BookNumber.the-variants.{Sequence}
 use Rattle.questions.specs.declared.Question.the-variants as Q

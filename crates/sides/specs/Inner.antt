@@ -1,3 +1,2 @@
--- What the functions of this crate ask of their callers, and the questions that it answers by one call, each by its clause.
+-- What the functions of this crate ask of their callers.
 pub mod Limits
-pub mod Kinds

@@ -1,7 +1,5 @@
-// What the sides of a book answer, on rows that are lent: the work of each question once it is known that the record is a book.
-pub mod asked; // asked.rt: questions of one kind as values
-pub mod depth; // depth.rt: quantities at, up to and around a price
-pub mod price; // price.rt: the price of trading a target
+// What the sides of a book answer: the definitions, each in one place, and the functions over the best levels and over the sums of both sides, on
+// rows that are lent. What is asked at a price or for a target, and the questions of one kind as values, stand in `asked`.
 pub mod top; // top.rt: the best levels, and what is made of both
 pub mod volume; // volume.rt: what is made of two quantities
 

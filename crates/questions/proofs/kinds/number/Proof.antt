@@ -5,7 +5,7 @@ use borrow.Author.Needs.{needs}
 use Rattle.types.specs.declared.Side.the-variants.{Bid, Ask}
 use Rattle.types.proofs.Booleans.{failed}
 use Rattle.levels.proofs.Tables.{levels-length}
-use Rattle.sides.proofs.Ticks.{prices-fit, tick-levels}
+use Rattle.asked.proofs.Ticks.{prices-fit, tick-levels}
 use Rattle.orderbook.specs.Lent.{bookAt}
 use Rattle.orderbook.specs.declared.OrderBook.{OrderBook}
 use Rattle.questions.specs.Questions.{spread, totalLevels, sequenceOf, tickSize}

@@ -4,7 +4,7 @@ use borrow.Author.Needs.{needs}
 use Rattle.types.proofs.Booleans.{failed}
 use Rattle.levels.specs.declared.Levels.{Levels}
 use Rattle.levels.specs.Table.{rows, levels}
-use Rattle.sides.specs.Inner.Kinds.{sideNumber}
+use Rattle.asked.specs.Inner.Kinds.{sideNumber}
 use Rattle.orderbook.specs.declared.OrderBook.{OrderBook}
 use Rattle.orderbook.specs.Book.{sideOf}
 use Rattle.orderbook.specs.Lent.{bookAt}

@@ -5,7 +5,7 @@ use Rattle.types.proofs.Booleans.{failed}
 use Rattle.types.specs.declared.Side.{Side}
 use Rattle.levels.specs.declared.Levels.{Levels}
 use Rattle.levels.specs.Table.{rows, levels}
-use Rattle.sides.specs.Inner.Kinds.{tradePrice}
+use Rattle.asked.specs.Inner.Kinds.{tradePrice}
 use Rattle.orderbook.specs.declared.OrderBook.{OrderBook}
 use Rattle.orderbook.specs.Book.{sideOf}
 use Rattle.orderbook.specs.Lent.{bookAt}

@@ -1,0 +1,2 @@
+-- The questions of each kind, each by its clause of the definitions.
+pub mod Kinds
