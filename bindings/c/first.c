@@ -32,6 +32,22 @@ static void expect(const char *what, bool holds)
     }
 }
 
+/* The sizes that the archive says its records have are those of the header's. */
+static void archive(void)
+{
+    wermazul_layout_record there = wermazul_layout();
+    expect("its version", there.version == 2000);
+    expect("its book", there.book == sizeof(wermazul_book_record));
+    expect("its ledger", there.ledger == sizeof(wermazul_ledger_record));
+    expect("its receiver", there.held == sizeof(wermazul_held));
+    expect("its answer", there.told == sizeof(wermazul_told));
+    expect("its counts", there.counts == sizeof(wermazul_counts));
+    expect("its counts after a call", there.counts_told == sizeof(wermazul_counts_told));
+    expect("its ledger after a call", there.ledger_told == sizeof(wermazul_ledger_told));
+    expect("its receiver after a line", there.turn_told == sizeof(wermazul_turn_told));
+    expect("its line", there.line_told == sizeof(wermazul_line_told));
+}
+
 /* The sizes that the archive's records have; the offset of what stands behind a field of another size. */
 static void layouts(void)
 {
@@ -167,6 +183,7 @@ static void receivers(wermazul_book_record k)
 
 int main(void)
 {
+    archive();
     layouts();
     wermazul_book_record k = book_k();
     deltas(k);

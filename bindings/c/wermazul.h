@@ -122,6 +122,13 @@ wermazul_told wermazul_receiver_list(
     const wermazul_row bid_prices, const wermazul_row bid_quantities, const wermazul_row ask_prices, const wermazul_row ask_quantities,
     uint64_t state, wermazul_counts counts, uint64_t listing, uint64_t side, uint64_t from, uint32_t to, uint32_t *out, size_t length);
 
+/* What the archive says of itself: its version, major * 1000000 + minor * 1000 + patch, and the size in bytes of each of these records there. */
+typedef struct {
+    uint64_t version, book, ledger, held, told, counts, counts_told, ledger_told, turn_told, line_told;
+} wermazul_layout_record;
+
+wermazul_layout_record wermazul_layout(void);
+
 #ifdef __cplusplus
 }
 #endif

@@ -54,10 +54,27 @@ pub(crate) struct LineTold {
     pub book: OrderBook,
 }
 
+/// The archive's version, and the size in bytes of each record that crosses, as the archive has them.
+#[repr(C)]
+pub(crate) struct Layout {
+    pub version: u64,
+    pub book: u64,
+    pub ledger: u64,
+    pub held: u64,
+    pub told: u64,
+    pub counts: u64,
+    pub counts_told: u64,
+    pub ledger_told: u64,
+    pub turn_told: u64,
+    pub line_told: u64,
+}
+
 /// The prices or the quantities of a side: a row of a book.
 pub(crate) type Row = [u32; MAX_LEVELS];
 
 extern "C" {
+    pub(crate) fn wermazul_layout() -> Layout;
+
     pub(crate) fn wermazul_book() -> OrderBook;
     pub(crate) fn wermazul_is_book(
         bid_prices: *const Row,

@@ -1,5 +1,6 @@
 pub mod Names
 pub mod Memory
+pub mod Layouts
 pub mod Books
 pub mod Ledgers
 pub mod Feeds

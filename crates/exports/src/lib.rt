@@ -3,6 +3,7 @@
 // back as the paper's number and values. Sides, actions, questions, listings and worths are named by their numbers; a number that names none
 // gives 2, after 1 for a record that is none.
 mod names; // names.rt: what the numbers of a call name
+pub mod layout; // layout.rt: the archive's version, and the sizes of the records that cross
 pub mod book; // book.rt: the book, its changes, its questions and its listings
 pub mod ledger; // ledger.rt: the ledger
 pub mod feed; // feed.rt: the lines of the feed

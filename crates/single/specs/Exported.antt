@@ -9,6 +9,7 @@ use Rattle.exports.specs.declared.BookTold.{BookTold}
 use Rattle.exports.specs.declared.CountsTold.{CountsTold}
 use Rattle.exports.specs.declared.TurnTold.{TurnTold}
 use Rattle.exports.specs.Receivers.{HeldTold}
+use Rattle.exports.proofs.layout as Y
 use Rattle.exports.proofs.book as B
 use Rattle.exports.proofs.ledger as P
 use Rattle.exports.proofs.feed as F
@@ -42,6 +43,11 @@ one-turned d v w x y p q =
     let n : x .counts ≡ y .counts = ap (λ (h : HeldTold). countsIn (h .receiver .book)) e in
     let t : x .told ≡ y .told = ap (λ (h : HeldTold). h .told) e in
     (λ i. record { state = m i; counts = n i; told = t i }, ap (λ (h : HeldTold). rowsIn (h .receiver .book)) e)
+
+-- the archive
+module _ where
+  pub wermazul-layout : One Y.wermazul_layout.Reads.Learnt
+  wermazul-layout κs a s t = one _
 
 -- the book: of a delta the four rows too, and of the writer the whole memory, which is the last parameter
 module _ where
