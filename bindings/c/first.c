@@ -52,7 +52,7 @@ static void archive(void)
 static void layouts(void)
 {
     expect("answers", sizeof(wermazul_whole) == 16 && sizeof(wermazul_told) == 80 && offsetof(wermazul_told, values) == 16);
-    expect("books", sizeof(wermazul_levels) == 1032 && sizeof(wermazul_book_record) == 2072 && sizeof(wermazul_book_told) == 2152);
+    expect("books", sizeof(wermazul_levels) == 1032 && sizeof(wermazul_book_record) == 2072);
     expect("counts", sizeof(wermazul_counts) == 24 && sizeof(wermazul_counts_told) == 104);
     expect("positions", sizeof(wermazul_position) == 24 && offsetof(wermazul_position, realized) == 16);
     expect("ledgers", sizeof(wermazul_ledger_record) == 784 && sizeof(wermazul_ledger_told) == 864);
@@ -114,9 +114,38 @@ static void books(wermazul_book_record k)
     hold("list", wermazul_list(WERMAZUL_ROWS(k), counts, 2, 0, 98, 99, out, 6), 0, 1, 4, 0);
     expect("listed", out[0] == 98 && out[1] == 10 && out[2] == 99 && out[3] == 0 && out[4] == 7);
     hold("no room", wermazul_list(WERMAZUL_ROWS(k), counts, 1, 0, 9, 0, out, 6), 11, 0, 0, 0);
-    hold("remove_all", wermazul_remove_all(k, 1).told, 0, 0, 0, 0);
-    hold("no side", wermazul_remove_all(k, 2).told, 2, 0, 0, 0);
-    expect("clear", wermazul_clear(k).book.sequence == 0);
+}
+
+static bool same_counts(wermazul_counts a, wermazul_counts b)
+{
+    return a.bids == b.bids && a.asks == b.asks && a.sequence == b.sequence;
+}
+
+/* A refusal leaves every row as it was; 1 comes before 2. */
+static void emptied(wermazul_book_record k)
+{
+    static const wermazul_counts wrong = {4, 2, 5}, no_asks = {3, 0, 5}, none = {0, 0, 0};
+    static const wermazul_row zeros = {0};
+    wermazul_book_record before = k;
+    wermazul_counts counts = counts_of(&k);
+    wermazul_counts_told next = wermazul_remove_all(WERMAZUL_ROWS(k), counts, 2);
+    hold("no side", next.told, 2, 0, 0, 0);
+    expect("its counts", same_counts(next.counts, counts));
+    hold("no book, no side", wermazul_remove_all(WERMAZUL_ROWS(k), wrong, 2).told, 1, 0, 0, 0);
+    next = wermazul_remove_all(WERMAZUL_ROWS(k), wrong, 0);
+    hold("no book's side", next.told, 1, 0, 0, 0);
+    expect("no book's counts", same_counts(next.counts, wrong));
+    next = wermazul_clear(WERMAZUL_ROWS(k), wrong);
+    hold("no book", next.told, 1, 0, 0, 0);
+    expect("as it was", same_counts(next.counts, wrong) && memcmp(&k, &before, sizeof k) == 0);
+    next = wermazul_remove_all(WERMAZUL_ROWS(k), counts, 1);
+    hold("remove_all", next.told, 0, 0, 0, 0);
+    expect("asks gone", !memcmp(k.asks.prices, zeros, sizeof zeros) && !memcmp(k.asks.quantities, zeros, sizeof zeros));
+    expect("bids kept", memcmp(&k.bids, &before.bids, sizeof k.bids) == 0 && same_counts(next.counts, no_asks));
+    next = wermazul_clear(WERMAZUL_ROWS(k), next.counts);
+    hold("clear", next.told, 0, 0, 0, 0);
+    expect("all gone", !memcmp(k.bids.prices, zeros, sizeof zeros) && !memcmp(k.bids.quantities, zeros, sizeof zeros));
+    expect("from the start", same_counts(next.counts, none));
 }
 
 static void ledgers(void)
@@ -188,6 +217,7 @@ int main(void)
     wermazul_book_record k = book_k();
     deltas(k);
     books(k);
+    emptied(k);
     ledgers();
     lines(k);
     receivers(k);

@@ -1,7 +1,7 @@
 /* The proved library for C and C++, on x86-64 Linux: link target/staticlib/libexports.a, which `rt staticlib exports` makes.
 
-   A book or a receiver is lent as its four rows with its counts beside them, and is asked and changed where it stands; a ledger, and a book
-   that is emptied, goes by value and comes back. Any record may be handed in, and each call tests it first.
+   A book or a receiver is lent as its four rows with its counts beside them, and is asked and changed where it stands; a ledger goes by value
+   and comes back. Any record may be handed in, and each call tests it first.
 
    An answer is the paper's number, 0 or a refusal, with the count of its values and up to four of them; those behind the count are 0. Sides
    are 0 bid and 1 ask, actions 0 Set and 1 Remove; a number that names nothing gives 2, after 1 for a record that is none. docs/PROMISES.md
@@ -31,7 +31,6 @@ typedef struct { uint64_t number, count; wermazul_whole values[4]; } wermazul_to
 typedef uint32_t wermazul_row[128];
 typedef struct { wermazul_row prices, quantities; uint64_t count; } wermazul_levels;
 typedef struct { wermazul_levels bids, asks; uint64_t sequence; } wermazul_book_record;
-typedef struct { wermazul_book_record book; wermazul_told told; } wermazul_book_told;
 
 /* What stands beside the rows. The counts that a call gives back belong to the rows from then on. */
 typedef struct { uint64_t bids, asks, sequence; } wermazul_counts;
@@ -47,8 +46,11 @@ bool wermazul_is_book(
 wermazul_counts_told wermazul_apply_delta(
     wermazul_row bid_prices, wermazul_row bid_quantities, wermazul_row ask_prices, wermazul_row ask_quantities,
     wermazul_counts counts, uint64_t side, uint64_t action, uint32_t price, uint32_t quantity, uint64_t sequence);
-wermazul_book_told wermazul_clear(wermazul_book_record book);
-wermazul_book_told wermazul_remove_all(wermazul_book_record book, uint64_t side);
+wermazul_counts_told wermazul_clear(
+    wermazul_row bid_prices, wermazul_row bid_quantities, wermazul_row ask_prices, wermazul_row ask_quantities, wermazul_counts counts);
+wermazul_counts_told wermazul_remove_all(
+    wermazul_row bid_prices, wermazul_row bid_quantities, wermazul_row ask_prices, wermazul_row ask_quantities,
+    wermazul_counts counts, uint64_t side);
 
 /* A question by its number; it takes what it needs of side, small (a price or a quantity) and large (a count or a volume). */
 enum wermazul_question {

@@ -85,8 +85,9 @@ impl OrderBook {
         self.sequence = counts.sequence;
     }
 
-    fn become_told(&mut self, after: ffi::BookTold) -> Result<(), Error> {
-        *self = after.book;
+    /// What a call left beside the rows, and its answer.
+    fn become_told(&mut self, after: ffi::CountsTold) -> Result<(), Error> {
+        self.set_counts(after.counts);
         after.told.done()
     }
 
@@ -110,20 +111,27 @@ impl OrderBook {
                 sequence,
             )
         };
-        self.set_counts(after.counts);
-        after.told.done()
+        self.become_told(after)
     }
 
     /// Empties both sides and sets the sequence to 0.
     pub fn clear(&mut self) -> Result<(), Error> {
-        // SAFETY: all goes over by value, and any record and number is taken.
-        self.become_told(unsafe { ffi::wermazul_clear(self.clone()) })
+        let counts = self.counts();
+        let OrderBook { bids, asks, .. } = self;
+        // SAFETY: the rows are four fields of one record, of 128 places each, lent to this call alone.
+        let after = unsafe { ffi::wermazul_clear(&mut bids.prices, &mut bids.quantities, &mut asks.prices, &mut asks.quantities, counts) };
+        self.become_told(after)
     }
 
     /// Empties one side and keeps the sequence.
     pub fn remove_all(&mut self, side: Side) -> Result<(), Error> {
-        // SAFETY: all goes over by value, and any record and number is taken.
-        self.become_told(unsafe { ffi::wermazul_remove_all(self.clone(), side as u64) })
+        let counts = self.counts();
+        let OrderBook { bids, asks, .. } = self;
+        // SAFETY: the rows are four fields of one record, of 128 places each, lent to this call alone.
+        let after = unsafe {
+            ffi::wermazul_remove_all(&mut bids.prices, &mut bids.quantities, &mut asks.prices, &mut asks.quantities, counts, side as u64)
+        };
+        self.become_told(after)
     }
 
     /// The answer to any question.

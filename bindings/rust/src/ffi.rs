@@ -9,12 +9,6 @@ use crate::MAX_LEVELS;
 #[cfg(test)]
 mod layout;
 
-#[repr(C)]
-pub(crate) struct BookTold {
-    pub book: OrderBook,
-    pub told: Told,
-}
-
 /// What stands beside a book's rows where it is lent as these.
 #[repr(C)]
 #[derive(Clone, Copy)]
@@ -95,8 +89,21 @@ extern "C" {
         quantity: u32,
         sequence: u64,
     ) -> CountsTold;
-    pub(crate) fn wermazul_clear(book: OrderBook) -> BookTold;
-    pub(crate) fn wermazul_remove_all(book: OrderBook, side: u64) -> BookTold;
+    pub(crate) fn wermazul_clear(
+        bid_prices: *mut Row,
+        bid_quantities: *mut Row,
+        ask_prices: *mut Row,
+        ask_quantities: *mut Row,
+        counts: Counts,
+    ) -> CountsTold;
+    pub(crate) fn wermazul_remove_all(
+        bid_prices: *mut Row,
+        bid_quantities: *mut Row,
+        ask_prices: *mut Row,
+        ask_quantities: *mut Row,
+        counts: Counts,
+        side: u64,
+    ) -> CountsTold;
     pub(crate) fn wermazul_ask(
         bid_prices: *const Row,
         bid_quantities: *const Row,

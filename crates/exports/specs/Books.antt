@@ -3,6 +3,7 @@ use Prim.Native.Nat.{ℕ}
 use mathlib.Core.List.{List}
 use Rattle.types.specs.Replies.{Reply, done, refused}
 use Rattle.types.specs.declared.Side.{Side}
+use Rattle.told.specs.declared.Told.{Told}
 use Rattle.told.specs.Numbers.{tell, nothing}
 use Rattle.listings.specs.declared.Listing.{Listing}
 use Rattle.listings.specs.Listed.{numbersOf}
@@ -10,8 +11,12 @@ use Rattle.orderbook.specs.declared.OrderBook.{OrderBook}
 use Rattle.orderbook.specs.Book.{ofBook}
 use Rattle.orderbook.specs.Apply.{Change, applied, sideCleared}
 use Rattle.questions.specs.Asked.{Value, bookAsk}
-use Rattle.exports.specs.declared.BookTold.{BookTold}
 use Rattle.exports.specs.Names.{sideBy, deltaBy, questionBy, listingBy, replyTo}
+
+-- a book, and an answer in numbers
+pub record BookTold : Type 0 where
+  pub book : OrderBook
+  pub told : Told
 
 -- a book after a change, and the reply as numbers
 abbrev pub bookTold : Change → BookTold

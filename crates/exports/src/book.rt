@@ -1,21 +1,21 @@
 // The book for Rust and C: its changes, its questions and its listings.
 ghost use mathlib.Core.Path.{_≡_};
 ghost use lib.ListN.{length};
+ghost use Rattle.types.specs.Answers.{replyOfOutcome};
 ghost use Rattle.types.specs.Replies.{refuse, mapReply};
 ghost use Rattle.types.specs.Written.{fitted, written};
 ghost use Rattle.told.specs.Numbers.{tell, nothing, oneNumber};
 ghost use Rattle.orderbook.specs.Book.{ofBook, isBook, emptyBook};
-ghost use Rattle.orderbook.specs.Apply.{changeOf, cleared};
+ghost use Rattle.orderbook.specs.Apply.{cleared};
 ghost use Rattle.orderbook.specs.Lent.{lentBook, leftBook};
 ghost use Rattle.questions.specs.Asked.{valuesIn};
 ghost use Rattle.exports.specs.Books.{bookTold, appliedBy, clearedBy, askedBy, listedBy};
 ghost use Rattle.exports.specs.Memory.{toldLeft};
-use crate::BookTold;
 use crate::CountsTold;
 use crate::names;
 use deltas::Counts;
+use deltas::RowsApplied;
 use frames::DeltaAnswer;
-use orderbook::Applied;
 use orderbook::OrderBook;
 use orderbook::rows;
 use told::Told;
@@ -39,13 +39,14 @@ pub(crate) fn refused<'a>(
     Told::of_refusal(Refusal::NotARecord)
 }
 
-fn given(applied: Applied) -> BookTold
-    ensures { λ r. ⌜ r ≡ bookTold (changeOf applied) ⌝ }
+// What a change left beside the rows, its outcome told.
+fn given(applied: RowsApplied) -> CountsTold
+    ensures { λ r. ⌜ r ≡ record { counts = applied .counts; told = tell nothing (replyOfOutcome (applied .outcome)) } ⌝ }
 {
-    let book = applied.book;
+    let counts = applied.counts;
     let outcome = applied.outcome;
-    BookTold {
-        book,
+    CountsTold {
+        counts,
         told: Told::of_outcome(outcome),
     }
 }
@@ -87,15 +88,7 @@ pub extern "C" fn wermazul_apply_delta(
     ensures { λ r. ⌜ record { book = leftBook bp bq ap aq (r .counts); told = r .told } ≡ bookTold (appliedBy (lentBook bp bq ap aq counts) side action price quantity sequence) ⌝ }
 {
     match names::delta_of(side, action, price, quantity, sequence) {
-        DeltaAnswer::Is(delta) => {
-            let applied = rows::apply_delta(bp, bq, ap, aq, counts, delta);
-            let outcome = applied.outcome;
-            let counts = applied.counts;
-            CountsTold {
-                counts,
-                told: Told::of_outcome(outcome),
-            }
-        }
+        DeltaAnswer::Is(delta) => given(rows::apply_delta(bp, bq, ap, aq, counts, delta)),
         DeltaAnswer::Refused(why) => CountsTold {
             counts,
             told: refused(bp, bq, ap, aq, counts, why),
@@ -104,33 +97,37 @@ pub extern "C" fn wermazul_apply_delta(
 }
 
 #[no_mangle]
-pub extern "C" fn wermazul_clear(book: OrderBook) -> BookTold
-    ensures { λ r. ⌜ r ≡ bookTold (cleared book) ⌝ }
+pub extern "C" fn wermazul_clear(
+    bp: &mut [u32; 128],
+    bq: &mut [u32; 128],
+    ap: &mut [u32; 128],
+    aq: &mut [u32; 128],
+    counts: Counts,
+) -> CountsTold
+    ensures { λ r. ⌜ record { book = leftBook bp bq ap aq (r .counts); told = r .told } ≡ bookTold (cleared (lentBook bp bq ap aq counts)) ⌝ }
 {
-    given(book.clear())
+    given(rows::clear(bp, bq, ap, aq, counts))
 }
 
+// Empties the side of this number; one that names none leaves the rows.
 #[no_mangle]
-pub extern "C" fn wermazul_remove_all(book: OrderBook, side: u64) -> BookTold
-    ensures { λ r. ⌜ r ≡ bookTold (clearedBy book side) ⌝ }
+pub extern "C" fn wermazul_remove_all(
+    bp: &mut [u32; 128],
+    bq: &mut [u32; 128],
+    ap: &mut [u32; 128],
+    aq: &mut [u32; 128],
+    counts: Counts,
+    side: u64,
+) -> CountsTold
+    ensures { λ r. ⌜ record { book = leftBook bp bq ap aq (r .counts); told = r .told } ≡ bookTold (clearedBy (lentBook bp bq ap aq counts) side) ⌝ }
 {
     if side > 1 {
-        let counts = Counts {
-            bids: book.bids.count,
-            asks: book.asks.count,
-            sequence: book.sequence,
-        };
-        let told = refused(
-            &book.bids.prices,
-            &book.bids.quantities,
-            &book.asks.prices,
-            &book.asks.quantities,
+        return CountsTold {
             counts,
-            Refusal::OutOfLimits,
-        );
-        return BookTold { book, told };
+            told: refused(bp, bq, ap, aq, counts, Refusal::OutOfLimits),
+        };
     }
-    given(book.remove_all(Side::of(side == 1)))
+    given(rows::remove_all(bp, bq, ap, aq, counts, Side::of(side == 1)))
 }
 
 // The book's answer to a question.

@@ -14,13 +14,6 @@ use orderbook::OrderBook;
 use position::PositionLedger;
 use told::Told;
 
-// A book after a call, and the call's answer.
-#[repr(C)]
-pub struct BookTold {
-    pub book: OrderBook,
-    pub told: Told,
-}
-
 // The counts beside a book's rows after a call, and the call's answer.
 #[repr(C)]
 pub struct CountsTold {

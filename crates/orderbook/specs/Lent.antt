@@ -11,6 +11,10 @@ use Rattle.orderbook.specs.declared.OrderBook.{OrderBook}
 abbrev pub bookAt : List ℕ → List ℕ → List ℕ → List ℕ → Counts → OrderBook
 bookAt bp bq ap aq c = record { bids = rows bp bq (c .bids); asks = rows ap aq (c .asks); sequence = c .sequence }
 
+-- the counts of a book
+abbrev pub countsIn : OrderBook → Counts
+countsIn b = record { bids = b .bids .count; asks = b .asks .count; sequence = b .sequence }
+
 -- a row that is lent to a call: as it was lent, and as the call returns
 abbrev pub Row : Type 0
 Row = Both (RefT (List ℕ)) (RefT (List ℕ))

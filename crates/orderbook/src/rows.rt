@@ -1,11 +1,11 @@
 // A book lent as its four rows (bid prices, bid quantities, ask prices, ask quantities), with its counts beside them: no row is copied, and a
-// delta changes the rows where they stand. Each promise is of the book that the rows and the counts make (specs/Lent.antt).
+// change is done to the rows where they stand. Each promise is of the book that the rows and the counts make (specs/Lent.antt).
 ghost use mathlib.Core.Path.{_≡_};
 ghost use mathlib.Core.Bool.{true};
 ghost use Rattle.types.specs.Answers.{replyOfOutcome};
 ghost use Rattle.levels.specs.Table.{rows};
 ghost use Rattle.orderbook.specs.Book.{ofSide, sidesFit, isBook};
-ghost use Rattle.orderbook.specs.Apply.{applied};
+ghost use Rattle.orderbook.specs.Apply.{applied, cleared, sideCleared};
 ghost use Rattle.orderbook.specs.Lent.{bookAt, lentBook, leftBook};
 ghost use Rattle.orderbook.specs.Inner.Long.{Long};
 use deltas::BookDelta;
@@ -96,5 +96,80 @@ pub fn apply_delta(
     RowsApplied {
         counts,
         outcome: Outcome::Refused(Refusal::NotARecord),
+    }
+}
+
+// Empties both sides and sets sequence 0.
+pub fn clear(
+    bp: &mut [u32; 128],
+    bq: &mut [u32; 128],
+    ap: &mut [u32; 128],
+    aq: &mut [u32; 128],
+    counts: Counts,
+) -> RowsApplied
+    ensures { λ r. ⌜ record { book = leftBook bp bq ap aq (r .counts); reply = replyOfOutcome (r .outcome) } ≡ cleared (lentBook bp bq ap aq counts) ⌝ }
+{
+    if !is_book(bp, bq, ap, aq, counts) {
+        return RowsApplied {
+            counts,
+            outcome: Outcome::Refused(Refusal::NotARecord),
+        };
+    }
+    *bp = [0; 128];
+    *bq = [0; 128];
+    *ap = [0; 128];
+    *aq = [0; 128];
+    RowsApplied {
+        counts: Counts {
+            bids: 0,
+            asks: 0,
+            sequence: 0,
+        },
+        outcome: Outcome::Done,
+    }
+}
+
+// Empties one side and keeps the sequence.
+pub fn remove_all(
+    bp: &mut [u32; 128],
+    bq: &mut [u32; 128],
+    ap: &mut [u32; 128],
+    aq: &mut [u32; 128],
+    counts: Counts,
+    side: Side,
+) -> RowsApplied
+    ensures { λ r. ⌜ record { book = leftBook bp bq ap aq (r .counts); reply = replyOfOutcome (r .outcome) } ≡ sideCleared side (lentBook bp bq ap aq counts) ⌝ }
+{
+    if !is_book(bp, bq, ap, aq, counts) {
+        return RowsApplied {
+            counts,
+            outcome: Outcome::Refused(Refusal::NotARecord),
+        };
+    }
+    match side {
+        Side::Bid => {
+            *bp = [0; 128];
+            *bq = [0; 128];
+            RowsApplied {
+                counts: Counts {
+                    bids: 0,
+                    asks: counts.asks,
+                    sequence: counts.sequence,
+                },
+                outcome: Outcome::Done,
+            }
+        }
+        Side::Ask => {
+            *ap = [0; 128];
+            *aq = [0; 128];
+            RowsApplied {
+                counts: Counts {
+                    bids: counts.bids,
+                    asks: 0,
+                    sequence: counts.sequence,
+                },
+                outcome: Outcome::Done,
+            }
+        }
     }
 }

@@ -9,7 +9,8 @@ use Rattle.orderbook.proofs.Kept.{one-change}
 use Rattle.orderbook.proofs.OrderBook as B
 use Rattle.orderbook.proofs.rows as R
 use Rattle.single.specs.One.{One, OneWith, one}
-use Rattle.single.specs.Rows.{Rows, bookOfRows, rowsIn, countsIn}
+use Rattle.orderbook.specs.Lent.{countsIn}
+use Rattle.single.specs.Rows.{Rows, bookOfRows, rowsIn}
 
 -- the record
 module _ where
@@ -45,10 +46,16 @@ one-made d v w x y p q =
     let n : x .counts ≡ y .counts = ap (λ (c : Change). countsIn (c .book)) e in
     (λ i. record { counts = n i; outcome = o i }, ap (λ (c : Change). rowsIn (c .book)) e)
 
--- a book that is lent as its rows: the test, and a delta with the four rows after it
+-- a book that is lent as its rows: the test, and each change with the four rows after it
 module _ where
   pub rows-is-book : One R.is_book.Reads.Learnt
   rows-is-book κs a s t x y p q = one _ x y (p .0) (q .0)
 
   pub rows-apply-delta : OneWith R.apply_delta.Reads.Learnt {X = Rows} (λ κs s. (now (s .0), now (s .1 .0), now (s .1 .1 .0), now (s .1 .1 .1 .0)))
   rows-apply-delta κs a s t x y = one-made _ _ _ x y
+
+  pub rows-clear : OneWith R.clear.Reads.Learnt {X = Rows} (λ κs s. (now (s .0), now (s .1 .0), now (s .1 .1 .0), now (s .1 .1 .1 .0)))
+  rows-clear κs a s t x y = one-made _ _ _ x y
+
+  pub rows-remove-all : OneWith R.remove_all.Reads.Learnt {X = Rows} (λ κs s. (now (s .0), now (s .1 .0), now (s .1 .1 .0), now (s .1 .1 .1 .0)))
+  rows-remove-all κs a s t x y = one-made _ _ _ x y

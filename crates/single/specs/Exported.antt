@@ -5,9 +5,9 @@ use mathlib.Core.List.{List}
 use denote.Ref.{now}
 use Rattle.types.specs.Written.{Left}
 use Rattle.told.specs.declared.Told.{Told}
-use Rattle.exports.specs.declared.BookTold.{BookTold}
 use Rattle.exports.specs.declared.CountsTold.{CountsTold}
 use Rattle.exports.specs.declared.TurnTold.{TurnTold}
+use Rattle.exports.specs.Books.{BookTold}
 use Rattle.exports.specs.Receivers.{HeldTold}
 use Rattle.exports.proofs.layout as Y
 use Rattle.exports.proofs.book as B
@@ -15,7 +15,8 @@ use Rattle.exports.proofs.ledger as P
 use Rattle.exports.proofs.feed as F
 use Rattle.exports.proofs.receiving as R
 use Rattle.single.specs.One.{One, OneWith, one}
-use Rattle.single.specs.Rows.{Rows, bookOfRows, rowsIn, countsIn}
+use Rattle.orderbook.specs.Lent.{countsIn}
+use Rattle.single.specs.Rows.{Rows, bookOfRows, rowsIn}
 
 -- an answer in numbers, and the whole of the lent memory
 one-left : (d : Left Told) (x y : Told) (m n : List ℕ) → record { answer = x; memory = m } ≡ d → record { answer = y; memory = n } ≡ d → (x ≡ y) × (m ≡ n)
@@ -49,7 +50,7 @@ module _ where
   pub wermazul-layout : One Y.wermazul_layout.Reads.Learnt
   wermazul-layout κs a s t = one _
 
--- the book: of a delta the four rows too, and of the writer the whole memory, which is the last parameter
+-- the book: of a change the four rows too, and of the writer the whole memory, which is the last parameter
 module _ where
   pub wermazul-book : One B.wermazul_book.Reads.Learnt
   wermazul-book κs a s t = one _
@@ -60,11 +61,11 @@ module _ where
   pub wermazul-apply-delta : OneWith B.wermazul_apply_delta.Reads.Learnt {X = Rows} (λ κs s. (now (s .0), now (s .1 .0), now (s .1 .1 .0), now (s .1 .1 .1 .0)))
   wermazul-apply-delta κs a s t x y = one-made _ _ _ x y
 
-  pub wermazul-clear : One B.wermazul_clear.Reads.Learnt
-  wermazul-clear κs a s t = one _
+  pub wermazul-clear : OneWith B.wermazul_clear.Reads.Learnt {X = Rows} (λ κs s. (now (s .0), now (s .1 .0), now (s .1 .1 .0), now (s .1 .1 .1 .0)))
+  wermazul-clear κs a s t x y = one-made _ _ _ x y
 
-  pub wermazul-remove-all : One B.wermazul_remove_all.Reads.Learnt
-  wermazul-remove-all κs a s t = one _
+  pub wermazul-remove-all : OneWith B.wermazul_remove_all.Reads.Learnt {X = Rows} (λ κs s. (now (s .0), now (s .1 .0), now (s .1 .1 .0), now (s .1 .1 .1 .0)))
+  wermazul-remove-all κs a s t x y = one-made _ _ _ x y
 
   pub wermazul-ask : One B.wermazul_ask.Reads.Learnt
   wermazul-ask κs a s t = one _

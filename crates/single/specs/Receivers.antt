@@ -12,7 +12,8 @@ use Rattle.receiver.proofs.Receiver as R
 use Rattle.receiver.proofs.rows as L
 use Rattle.receiver_questions.proofs as Q
 use Rattle.single.specs.One.{One, OneWith, OnePart, one, one-part}
-use Rattle.single.specs.Rows.{Rows, bookOfRows, rowsIn, countsIn}
+use Rattle.orderbook.specs.Lent.{countsIn}
+use Rattle.single.specs.Rows.{Rows, bookOfRows, rowsIn}
 
 -- the record, and its turn at a line: the receiver and the outcome
 module _ where

@@ -16,7 +16,3 @@ bookOfRows w c = bookAt (w .0) (w .1) (w .2) (w .3) c
 -- the rows of a book
 abbrev pub rowsIn : OrderBook → Rows
 rowsIn b = (b .bids .prices, b .bids .quantities, b .asks .prices, b .asks .quantities)
-
--- the counts of a book
-abbrev pub countsIn : OrderBook → Counts
-countsIn b = record { bids = b .bids .count; asks = b .asks .count; sequence = b .sequence }

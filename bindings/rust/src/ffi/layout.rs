@@ -25,7 +25,6 @@ fn answers() {
 fn books() {
     assert_eq!(layout!(Levels, prices, quantities, count), [1032, 0, 512, 1024]);
     assert_eq!(layout!(OrderBook, bids, asks, sequence), [2072, 0, 1032, 2064]);
-    assert_eq!(layout!(BookTold, book, told), [2152, 0, 2072]);
     assert_eq!(layout!(Counts, bids, asks, sequence), [24, 0, 8, 16]);
     assert_eq!(layout!(CountsTold, counts, told), [104, 0, 24]);
     assert_eq!(size_of::<Row>(), 512);

@@ -1,4 +1,4 @@
--- `book::given` meets its contract: the outcome is told beside the book.
+-- `book::given` meets its contract: the outcome is told beside the counts.
 use borrow.Author.Needs.{needs}
 use Rattle.exports.proofs.book.given.Statement.{statement}
 use Rattle.exports.proofs.book.given.Tie as tie

@@ -18,9 +18,9 @@ wermazul-apply-delta-spec =
     (λ c. search needs)
     (λ c κs. search needs)
     (λ c.
-    let a = c .before .before in
+    let a = c .before in
     let d = a .before .before .before .before .before .before in
-    rw (c .of-outcome .ensures) (ap bookTold (a .apply-delta .ensures ∙ changed _ _ _ _ (rw (d .delta .given .1) at (d .before .before .delta-of .ensures)))))
+    rw (c .given .ensures) (ap bookTold (a .apply-delta .ensures ∙ changed _ _ _ _ (rw (d .delta .given .1) at (d .before .before .delta-of .ensures)))))
     (λ c.
     let w = c .before .before .before .before .before .before in
     rw (c .refused .ensures) (unchanged _ _ _ (w .why .given .0 .0) (rw (w .why .given .1) at (w .before .before .delta-of .ensures)))))

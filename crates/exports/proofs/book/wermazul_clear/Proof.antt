@@ -1,5 +1,5 @@
--- `book::wermazul_clear` meets its contract: what clear gave back is told.
-use mathlib.Core.Path.{ap, _∙_}
+-- `book::wermazul_clear` meets its contract: what clear left is told.
+use mathlib.Core.Path.{ap}
 use borrow.Author.Needs.{needs}
 use Rattle.exports.specs.Books.{bookTold}
 use Rattle.exports.proofs.book.wermazul_clear.Statement.{statement}
@@ -11,4 +11,4 @@ wermazul-clear-spec =
     (tie.spec
     (λ c κs. search needs)
     (λ c κs. search needs)
-    (λ c. c .given .ensures ∙ ap bookTold (c .before .clear .ensures)))
+    (λ c. rw (c .given .ensures) (ap bookTold (c .before .clear .ensures))))

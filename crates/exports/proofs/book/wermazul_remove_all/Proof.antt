@@ -1,5 +1,5 @@
 -- `book::wermazul_remove_all` meets its contract: the side is emptied if its number names one.
-use mathlib.Core.Path.{sym, ap, _∙_}
+use mathlib.Core.Path.{ap, _∙_}
 use borrow.Author.Tests.{lt-leb, le-leb}
 use borrow.Author.Needs.{needs}
 use Rattle.exports.specs.Books.{bookTold, clearedBy}
@@ -12,8 +12,10 @@ wermazul-remove-all-spec =
     tie.close
     (tie.spec
     (λ c κs. search needs)
-    (λ c. rw (c .refused .ensures, lt-leb _ _ (c .before .before .before .before .before .before .if1 .taken)))
+    (λ c. rw (c .refused .ensures, lt-leb _ _ (c .before .before .before .before .before .if1 .taken)))
     (λ c κs. search needs)
     (λ c κs. search needs)
     (λ c κs. search needs)
-    (λ c. c .given .ensures ∙ ap bookTold (c .before .remove-all .ensures) ∙ rw (c .before .before .of .ensures, le-leb _ _ (c .before .before .before .if1 .left))))
+    (λ c.
+    let s = c .before .before in
+    rw (c .given .ensures) (ap bookTold (c .before .remove-all .ensures) ∙ rw (s .of .ensures, le-leb _ _ (s .before .before .before .before .before .if1 .left)))))
