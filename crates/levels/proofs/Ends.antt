@@ -17,10 +17,10 @@ use Rattle.types.proofs.Booleans.{by}
 use Rattle.levels.proofs.Orders.{ahead-not-self, ahead-trans, ahead-not-back, ordered}
 
 -- what lies in the limits, in numbers
-within-le : (lo hi x : ℕ) → within lo hi x ≡ true → (lo ≤ x) × (x ≤ hi)
+pub within-le : (lo hi x : ℕ) → within lo hi x ≡ true → (lo ≤ x) × (x ≤ hi)
 within-le lo hi x h = let a = and-eq-true-iff (leb lo x) _ .0 h in (leb-true lo x (a .0), leb-true x hi (a .1))
 
-le-within : (lo hi x : ℕ) → lo ≤ x → x ≤ hi → within lo hi x ≡ true
+pub le-within : (lo hi x : ℕ) → lo ≤ x → x ≤ hi → within lo hi x ≡ true
 le-within lo hi x h k = rw (le-leb lo x h, le-leb x hi k)
 
 module _ (lo hi : ℕ) where
@@ -64,17 +64,18 @@ module _ (s : Side) where
         let j : suc m - 1 ≡ m = omega arith in
         rw (j, ← at) (rw e at (by-ends x (take m xs) k))
 
--- zeros are in limits that hold 0, so a row with zeros from the place n on is in them where its first n are
-zeros-within : (hi : ℕ) (xs : List ℕ) → zeros xs ≡ true → every (within 0 hi) xs ≡ true
+-- what is in limits is in wider ones
+pub wider : (lo hi : ℕ) (xs : List ℕ) → lo ≤ hi → every (within 0 lo) xs ≡ true → every (within 0 hi) xs ≡ true
 unfolding every
-zeros-within hi [] h = refl
-zeros-within hi (x ∷ xs) h =
-    let a = and-eq-true-iff (within 0 0 x) _ .0 h in
-    let u = within-le 0 0 x (a .0) in
-    rw (le-within 0 hi x (omega arith) (omega arith)) (zeros-within hi xs (a .1))
+wider lo hi [] l h = refl
+wider lo hi (x ∷ xs) l h =
+    let a = and-eq-true-iff (within 0 lo x) _ .0 h in
+    let u = within-le 0 lo x (a .0) in
+    rw (le-within 0 hi x (omega arith) (omega arith)) (wider lo hi xs l (a .1))
 
+-- and zeros in any, so a row with zeros from the place n on is in them where its first n are
 pub whole-row : (hi n : ℕ) (xs : List ℕ) → zeros (drop n xs) ≡ true → every (within 0 hi) xs ≡ every (within 0 hi) (take n xs)
 unfolding every
-whole-row hi zero xs h = zeros-within hi xs h
+whole-row hi zero xs h = wider 0 hi xs (omega arith) h
 whole-row hi (suc n) [] h = refl
 whole-row hi (suc n) (x ∷ xs) h = rw (whole-row hi n xs h)

@@ -1,3 +1,4 @@
+pub mod Bits
 pub mod Ends
 pub mod Orders
 pub mod Pads
@@ -5,3 +6,4 @@ pub mod Places
 pub mod Rows
 pub mod Steps
 pub mod Tables
+pub mod Turned

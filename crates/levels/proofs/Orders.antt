@@ -77,7 +77,7 @@ module _ (s : Side) (p : ℕ) where
       (λ a. rw (a, none-ahead x xs a h, add-zero))
 
 -- a number of the list, whatever is said of those past its end
-getD-any : (xs : List ℕ) (i d e : ℕ) → i < length xs → getD xs i d ≡ getD xs i e
+pub getD-any : (xs : List ℕ) (i d e : ℕ) → i < length xs → getD xs i d ≡ getD xs i e
 getD-any [] i d e h = absurd (omega arith)
 getD-any (x ∷ xs) zero d e h = refl
 getD-any (x ∷ xs) (suc i) d e h = getD-any xs i d e (omega arith)

@@ -1,4 +1,4 @@
--- The first n places of a row, from the place i on: what a test, a count of steps and a count say of them by the place at i and the rest.
+-- A row, or its first n places, from the place i on: what a test, a count of steps and a count say of them by the place at i and the rest.
 use Prim.Native.Nat.{ℕ, suc, _+_, _≤_, _<_}
 use native.Mathlib.Omega.{arith}
 use native.Mathlib.Nat.{eq-or-lt-of-le}
@@ -12,6 +12,16 @@ use lib.Seq.{length-take-le, drop-cons, getD-take}
 use Rattle.types.specs.declared.Side.{Side}
 use Rattle.levels.specs.Order.{aheadOf, stepTo, steps, countAhead}
 use Rattle.levels.specs.Formed.{every}
+
+-- a test of the whole row from the place i on
+module _ (xs : List ℕ) (i : ℕ) (f : ℕ → Bool) where
+  pub row-turn : i < length xs → every f (drop i xs) ≡ f (getD xs i 0) && every f (drop (i + 1) xs)
+  unfolding every
+  row-turn h = rw (drop-cons xs i 0, add-one)
+
+  pub row-end : length xs ≤ i → every f (drop i xs) ≡ true
+  unfolding every
+  row-end h = rw (drop-of-length-le xs h)
 
 module _ (xs : List ℕ) (n : ℕ) (l : n ≤ length xs) where
   -- what is left of the first n from the place i on: the number there, and then the rest
@@ -28,10 +38,6 @@ module _ (xs : List ℕ) (n : ℕ) (l : n ≤ length xs) where
       drop-of-length-le (take n xs) past
 
   module _ (i : ℕ) where
-    pub every-turn : (f : ℕ → Bool) → i < n → every f (drop i (take n xs)) ≡ f (getD xs i 0) && every f (drop (i + 1) (take n xs))
-    unfolding every
-    every-turn f h = rw (run-cons i h)
-
     pub every-end : (f : ℕ → Bool) → n ≤ i → every f (drop i (take n xs)) ≡ true
     unfolding every
     every-end f h = rw (run-end i h)

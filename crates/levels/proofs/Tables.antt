@@ -2,7 +2,7 @@
 use Prim.Native.Nat.{ℕ, zero, suc, _+_, _≤_, _<_}
 use native.Mathlib.Omega.{arith}
 use mathlib.Core.Path.{_≡_, refl, ap, sym, _∙_}
-use mathlib.Core.Bool.{Bool, true, false, _&&_, and-eq-true-iff, and-false}
+use mathlib.Core.Bool.{Bool, true, false, _&&_, and-eq-true-iff, and-true, and-false}
 use mathlib.Core.List.{List, [], _∷_}
 use lib.ListN.{length, take, drop, getD, length-map, length-take}
 use lib.Seq.{length-take-le}
@@ -74,11 +74,11 @@ crossed true true c d = refl
 crossed true false c d = sym (and-false c)
 crossed false b c d = refl
 
-regrouped : (a b c d e : Bool) → a && ((b && c) && (d && e)) ≡ d && ((a && b) && (c && e))
-regrouped true true true d e = refl
-regrouped true true false d e = sym (and-false d)
-regrouped true false c d e = sym (and-false d)
-regrouped false b c d e = sym (and-false d)
+regrouped : (a b c d e : Bool) → a && ((b && c) && (d && e)) ≡ (a && b) && ((d && e) && c)
+regrouped true true true d e = sym (and-true (d && e))
+regrouped true true false d e = sym (and-false (d && e))
+regrouped true false c d e = refl
+regrouped false b c d e = refl
 
 paired-limits : (ps qs : List ℕ) → length ps ≡ length qs → every inLimits (paired ps qs) ≡ every (within 1 maxPrice) ps && every (within 0 maxQuantity) qs
 unfolding every
@@ -125,9 +125,8 @@ module _ (t : Levels) (w : Sized t) (n : t .count ≤ maxLevels) where
   pub by-rows :
       (s : Side) →
       wellFormed s t ≡
-      zeros (drop (t .count) (t .prices)) &&
-      ((inOrder s (take (t .count) (t .prices)) && every (within 1 maxPrice) (take (t .count) (t .prices))) &&
-      (every (within 0 maxQuantity) (take (t .count) (t .quantities)) && zeros (drop (t .count) (t .quantities))))
+      (inOrder s (take (t .count) (t .prices)) && every (within 1 maxPrice) (take (t .count) (t .prices))) &&
+      ((zeros (drop (t .count) (t .prices)) && zeros (drop (t .count) (t .quantities))) && every (within 0 maxQuantity) (take (t .count) (t .quantities)))
   unfolding wellFormed
   by-rows s = rw (le-leb _ _ n, levels-prices, paired-limits _ _ even) (regrouped (inOrder s (take (t .count) (t .prices))) _ _ (zeros (drop (t .count) (t .prices))) _)
 

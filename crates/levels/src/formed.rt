@@ -1,10 +1,13 @@
-// Whether two rows and a count are a well-formed side: one fact a loop, kept in a flag or a count.
+// Whether two rows and a count are a well-formed side. This test comes before every answer, so each loop has the shape that compiles to the
+// fewest instructions a place: a count, or all bits laid over each other, and never a way out of the loop.
 ghost use mathlib.Core.Path.{_≡_};
-ghost use mathlib.Core.Bool.{_&&_};
-ghost use Prim.Native.Nat.{_≤_};
+ghost use mathlib.Core.Bool.{true, _&&_};
+ghost use mathlib.Core.List.{map};
+ghost use Prim.Native.Nat.{_≤_, _^_};
+ghost use lib.Bits.{bitXor};
 ghost use lib.ListN.{length, take, drop};
 ghost use Rattle.types.specs.Limits.{within, maxPrice, maxQuantity};
-ghost use Rattle.levels.specs.Order.{inOrder, steps};
+ghost use Rattle.levels.specs.Order.{aheadOf, inOrder, steps};
 ghost use Rattle.levels.specs.Table.{rows};
 ghost use Rattle.levels.specs.Formed.{every, zeros, wellFormed};
 use crate::search::ahead;
@@ -20,31 +23,22 @@ fn fits(x: u32, lo: u32, hi: u32) -> bool
     x <= hi
 }
 
-// Whether each place from `from` to `to` holds a number from `lo` to `hi`.
-pub fn all_within(row: &[u32; 128], from: usize, to: usize, lo: u32, hi: u32) -> bool
-    requires { ⌜ (length (now row) ≡ 128) × (to ≤ 128) ⌝ }
-    ensures { λ r. ⌜ r ≡ every (within lo hi) (drop from (take to (now (row .entry)))) ⌝ }
+// Whether `a` is ahead of `b`, the highest bit of both turned: the processor has one instruction for that, and needs three for plain numbers.
+fn ahead_turned(side: Side, a: u32, b: u32) -> bool
+    ensures { λ r. ⌜ r ≡ aheadOf side (bitXor a (2 ^ 31)) (bitXor b (2 ^ 31)) ⌝ }
 {
-    let mut ok = true;
-    let mut i = from;
-    while i < to {
-        if !fits(row[i], lo, hi) {
-            ok = false;
-        }
-        i += 1;
-    }
-    ok
+    ahead(side, a ^ 0x8000_0000, b ^ 0x8000_0000)
 }
 
-// How many of the first `n` prices are ahead of the next: a count compiles to a faster loop than a flag.
+// How many of the first `n` prices are, turned, ahead of the next.
 fn count_steps(side: Side, prices: &[u32; 128], n: usize) -> usize
     requires { ⌜ (length (now prices) ≡ 128) × (n ≤ 128) ⌝ }
-    ensures { λ r. ⌜ r ≡ steps side (take n (now (prices .entry))) ⌝ }
+    ensures { λ r. ⌜ r ≡ steps side (take n (map (λ x. bitXor x (2 ^ 31)) (now (prices .entry)))) ⌝ }
 {
     let mut count: u32 = 0;
     let mut i: usize = 0;
     while i + 1 < n {
-        if ahead(side, prices[i], prices[i + 1]) {
+        if ahead_turned(side, prices[i], prices[i + 1]) {
             count += 1;
         }
         i += 1;
@@ -52,10 +46,10 @@ fn count_steps(side: Side, prices: &[u32; 128], n: usize) -> usize
     count as usize
 }
 
-// Whether each of the first `n` prices is ahead of the next.
-pub fn ordered(side: Side, prices: &[u32; 128], n: usize) -> bool
+// Whether each of the first `n` prices is, turned, ahead of the next.
+fn ordered(side: Side, prices: &[u32; 128], n: usize) -> bool
     requires { ⌜ (length (now prices) ≡ 128) × (n ≤ 128) ⌝ }
-    ensures { λ r. ⌜ r ≡ inOrder side (take n (now (prices .entry))) ⌝ }
+    ensures { λ r. ⌜ r ≡ inOrder side (take n (map (λ x. bitXor x (2 ^ 31)) (now (prices .entry)))) ⌝ }
 {
     if n == 0 {
         return true;
@@ -63,7 +57,8 @@ pub fn ordered(side: Side, prices: &[u32; 128], n: usize) -> bool
     count_steps(side, prices, n) == n - 1
 }
 
-// Whether the first `n` prices are in order and in the limits: in order, the first and the last are in them only if all are.
+// Whether the first `n` prices are in order and in the limits. Turned prices in order lie between the first and the last, so these two are
+// in the limits only if all are, and of numbers in the limits the turned ones have the same order.
 fn prices_fit(side: Side, prices: &[u32; 128], n: usize) -> bool
     requires { ⌜ (length (now prices) ≡ 128) × (n ≤ 128) ⌝ }
     ensures { λ r. ⌜ r ≡ inOrder side (take n (now (prices .entry))) && every (within 1 maxPrice) (take n (now (prices .entry))) ⌝ }
@@ -80,15 +75,59 @@ fn prices_fit(side: Side, prices: &[u32; 128], n: usize) -> bool
     fits(prices[n - 1], 1, types::MAX_PRICE)
 }
 
-// Whether the first `n` quantities are in the limits and the others 0: 0 is in them, so the loop's end need not be `n`.
-fn quantities_fit(quantities: &[u32; 128], n: usize) -> bool
-    requires { ⌜ (length (now quantities) ≡ 128) × (n ≤ 128) ⌝ }
-    ensures { λ r. ⌜ r ≡ every (within 0 maxQuantity) (take n (now (quantities .entry))) && zeros (drop n (now (quantities .entry))) ⌝ }
+// All bits of the row's numbers, laid over each other: no number is above that.
+fn all_bits(row: &[u32; 128]) -> u32
+    requires { ⌜ length (now row) ≡ 128 ⌝ }
+    ensures { λ r. ⌜ every (within 0 r) (now (row .entry)) ≡ true ⌝ }
 {
-    if !all_within(quantities, n, 128, 0, 0) {
-        return false;
+    let mut bits: u32 = 0;
+    let mut i: usize = 0;
+    while i < 128 {
+        bits |= row[i];
+        i += 1;
     }
-    all_within(quantities, 0, 128, 0, types::MAX_QUANTITY)
+    bits
+}
+
+// Whether no number of the row is above `hi`.
+fn all_within(row: &[u32; 128], hi: u32) -> bool
+    requires { ⌜ length (now row) ≡ 128 ⌝ }
+    ensures { λ r. ⌜ r ≡ every (within 0 hi) (now (row .entry)) ⌝ }
+{
+    let mut ok = true;
+    let mut i: usize = 0;
+    while i < 128 {
+        if !fits(row[i], 0, hi) {
+            ok = false;
+        }
+        i += 1;
+    }
+    ok
+}
+
+// Whether each number of the row is a quantity in the limits: at once where all bits together are, else one by one.
+fn quantities_fit(row: &[u32; 128]) -> bool
+    requires { ⌜ length (now row) ≡ 128 ⌝ }
+    ensures { λ r. ⌜ r ≡ every (within 0 maxQuantity) (now (row .entry)) ⌝ }
+{
+    if all_bits(row) <= types::MAX_QUANTITY {
+        return true;
+    }
+    all_within(row, types::MAX_QUANTITY)
+}
+
+// Whether both rows have 0 in each place from `n` on.
+fn unused_are_zero<'a>(prices: &'a [u32; 128], quantities: &'a [u32; 128], n: usize) -> bool
+    requires { ⌜ (length (now prices) ≡ 128) × (length (now quantities) ≡ 128) ⌝ }
+    ensures { λ r. ⌜ r ≡ zeros (drop n (now (prices .entry))) && zeros (drop n (now (quantities .entry))) ⌝ }
+{
+    let mut bits: u32 = 0;
+    let mut i = n;
+    while i < 128 {
+        bits |= prices[i] | quantities[i];
+        i += 1;
+    }
+    bits == 0
 }
 
 // Whether the rows and the count are a well-formed side.
@@ -106,11 +145,11 @@ pub fn well_formed<'a>(
     if 128 < n {
         return false;
     }
-    if !all_within(prices, n, 128, 0, 0) {
-        return false;
-    }
     if !prices_fit(side, prices, n) {
         return false;
     }
-    quantities_fit(quantities, n)
+    if !unused_are_zero(prices, quantities, n) {
+        return false;
+    }
+    quantities_fit(quantities)
 }

@@ -1,36 +1,33 @@
 -- `formed::all_within` meets its contract. The loop's invariant: the flag, and the definition from here on, make the whole.
-use Prim.Native.Nat.{_+_, _-_, _≤_}
+use Prim.Native.Nat.{_+_, _-_}
 use native.Mathlib.Omega.{arith}
 use mathlib.Core.Path.{_≡_, refl}
 use mathlib.Core.Bool.{_&&_}
 use mathlib.Core.Logic.{⊎-elim}
 use borrow.Author.Needs.{needs}
-use lib.ListN.{length, take, drop, getD}
+use lib.ListN.{drop, getD}
 use Rattle.types.specs.Limits.{within}
 use Rattle.levels.specs.Formed.{every}
 use Rattle.types.proofs.Booleans.{passed, failed, flag-off, flag-on, flag-end}
-use Rattle.levels.proofs.Rows.{every-turn, every-end}
+use Rattle.levels.proofs.Rows.{row-turn, row-end}
 use Rattle.levels.proofs.formed.all_within.Statement.{statement}
 use Rattle.levels.proofs.formed.all_within.Tie as tie
 
 abbrev Inv-loop : tie.InvT-loop
-Inv-loop row from to lo hi ok₀ i₀ ok i = every (within lo hi) (drop from (take to row)) ≡ ok && every (within lo hi) (drop i (take to row))
+Inv-loop row hi ok₀ i₀ ok i = every (within 0 hi) row ≡ ok && every (within 0 hi) (drop i row)
 
 abbrev μ-loop : tie.MeasureT-loop
-μ-loop row from to lo hi ok₀ i₀ ok i = to - i
-
-sized : (c : tie.Start Inv-loop μ-loop) → c .args .to ≤ length (c .args .row .now)
-sized c = omega arith
+μ-loop row hi ok₀ i₀ ok i = 128 - i
 
 loop-again : tie.Need-loop-again Inv-loop μ-loop
 loop-again c =
     let d = c .before .before .before in
     let a = d .before .before .args in
     let l = d .before .loop in
-    let f = within (a .lo) (a .hi) in
+    let f = within 0 (a .hi) in
     let t = f (getD (a .row .now) (l .i) 0) in
-    let r = every f (drop (l .i + 1) (take (a .to) (a .row .now))) in
-    let turn = every-turn (a .row .now) (a .to) (sized (d .before .before)) (l .i) f (d .loop-test .taken) in
+    let r = every f (drop (l .i + 1) (a .row .now)) in
+    let turn = row-turn (a .row .now) (l .i) f (omega arith) in
     let test = c .before .fits2 .ensures in
     ⊎-elim
     (λ w. flag-off (l .ok) t r (l .inv) turn (w .1) (failed test (w .0 .taken)))
@@ -39,11 +36,10 @@ loop-again c =
 
 returns : tie.Need-returns Inv-loop μ-loop
 returns c =
-    let s = c .before .before in
-    let a = s .args in
+    let a = c .before .before .args in
     let l = c .before .loop in
-    let f = within (a .lo) (a .hi) in
-    flag-end (l .ok) (every f (drop (l .i) (take (a .to) (a .row .now)))) (l .inv) (every-end (a .row .now) (a .to) (sized s) (l .i) f (c .loop-test .left))
+    let f = within 0 (a .hi) in
+    flag-end (l .ok) (every f (drop (l .i) (a .row .now))) (l .inv) (row-end (a .row .now) (l .i) f (omega arith))
 
 pub all-within-spec : {M : Type 1} → statement M
 all-within-spec =

@@ -4,14 +4,16 @@ use native.Mathlib.Omega.{arith}
 use mathlib.Core.Path.{_≡_, sym, _∙_}
 use mathlib.Core.Logic.{⊎-elim}
 use borrow.Author.Needs.{needs}
-use lib.ListN.{length, take, drop}
+use mathlib.Core.List.{map}
+use lib.ListN.{length, take, drop, length-map}
 use Rattle.levels.specs.Order.{steps}
-use Rattle.levels.proofs.Rows.{steps-turn, steps-end}
+use Rattle.levels.proofs.Rows.{steps-end}
+use Rattle.levels.proofs.Turned.{turned, turned-turn}
 use Rattle.levels.proofs.formed.count_steps.Statement.{statement}
 use Rattle.levels.proofs.formed.count_steps.Tie as tie
 
 abbrev Inv-loop : tie.InvT-loop
-Inv-loop side prices n count₀ i₀ count i = (i ≤ n) × (count ≤ i) × (steps side (take n prices) ≡ count + steps side (drop i (take n prices)))
+Inv-loop side prices n count₀ i₀ count i = (i ≤ n) × (count ≤ i) × (steps side (take n (map turned prices)) ≡ count + steps side (drop i (take n (map turned prices))))
 
 abbrev μ-loop : tie.MeasureT-loop
 μ-loop side prices n count₀ i₀ count i = n - i
@@ -24,8 +26,8 @@ loop-again c =
     let d = c .before .before .before .before in
     let a = d .before .before .args in
     let l = d .before .loop in
-    let turn = steps-turn (a .prices .now) (a .n) (sized (d .before .before)) (l .i) (a .side) (d .loop-test .taken) in
-    let test = c .before .ahead .ensures in
+    let turn = turned-turn (a .side) (a .prices .now) (a .n) (sized (d .before .before)) (l .i) (d .loop-test .taken) in
+    let test = c .before .ahead-turned .ensures in
     ⊎-elim
     (λ w. let e = rw (sym test ∙ w .0 .taken) at turn in (omega arith, omega (arith, w .1), omega (arith, w .1, l .inv .2, e)))
     (λ w. let e = rw (sym test ∙ w .0 .left) at turn in (omega arith, omega (arith, w .1), omega (arith, w .1, l .inv .2, e)))
@@ -36,7 +38,10 @@ returns c =
     let s = c .before .before in
     let a = s .args in
     let l = c .before .loop in
-    omega (arith, l .inv .2, steps-end (a .prices .now) (a .n) (sized s) (l .i) (a .side) (c .loop-test .left))
+    let row = map turned (a .prices .now) in
+    let m = length-map (a .prices .now) turned in
+    let few = sized s in
+    omega (arith, l .inv .2, steps-end row (a .n) (omega arith) (l .i) (a .side) (c .loop-test .left))
 
 pub count-steps-spec : {M : Type 1} → statement M
 count-steps-spec =

@@ -1,8 +1,11 @@
--- `formed::ordered` meets its contract: prices are in order where each but the last is ahead of the next.
+-- `formed::ordered` meets its contract: turned prices are in order where each but the last is ahead of the next.
 use native.Mathlib.Omega.{arith}
 use mathlib.Core.Path.{sym}
+use mathlib.Core.List.{map}
 use borrow.Author.Needs.{needs}
+use lib.ListN.{length-map}
 use Rattle.levels.proofs.Steps.{order-none, order-by-steps}
+use Rattle.levels.proofs.Turned.{turned}
 use Rattle.levels.proofs.formed.ordered.Statement.{statement}
 use Rattle.levels.proofs.formed.ordered.Tie as tie
 
@@ -10,9 +13,10 @@ pub ordered-spec : {M : Type 1} → statement M
 ordered-spec =
     tie.close
     (tie.spec
-    (λ c. let a = c .before .args in sym (order-none (a .side) (a .prices .now) (a .n) (c .if1 .taken)))
+    (λ c. let a = c .before .args in sym (order-none (a .side) (map turned (a .prices .now)) (a .n) (c .if1 .taken)))
     (λ c κs. search needs)
     (λ c. search needs)
     (λ c.
     let a = c .before .before .args in
-    rw (c .count-steps .ensures) (order-by-steps (a .side) (a .prices .now) (a .n) (omega arith) (omega arith))))
+    let m = length-map (a .prices .now) turned in
+    rw (c .count-steps .ensures) (order-by-steps (a .side) (map turned (a .prices .now)) (a .n) (omega arith) (omega arith))))
