@@ -1,0 +1,43 @@
+#!/usr/bin/env bash
+# Times the test whether a record is a book, which comes before every answer, beside the same test in plain Rust, in one process: about 90
+# levels a side, the best of 300 short rounds as a range over the runs. Compares the answers on good and on spoilt records first.
+#   bash bench/record.sh
+#   RUNS=1 bash bench/record.sh       another number of runs than 5; each takes about a second
+# Needs rustc 1.66 or newer, and the Rattle toolchain or an archive that WERMAZUL_ARCHIVE names.
+set -euo pipefail
+archive=
+if [ -n "${WERMAZUL_ARCHIVE:-}" ]; then
+  archive=$(readlink -f "$WERMAZUL_ARCHIVE") && [ -r "$archive" ] || { echo "The archive $WERMAZUL_ARCHIVE cannot be read." >&2; exit 1; }
+fi
+cd "$(dirname "$(readlink -f "${BASH_SOURCE[0]}")")/.."
+if [ "$(uname -sm)" != "Linux x86_64" ]; then echo "The archive is for x86-64 Linux, and a time under an emulator says nothing." >&2; exit 1; fi
+if ! command -v rustc >/dev/null; then echo "rustc is missing: install Rust 1.66 or newer." >&2; exit 1; fi
+if [ -z "$archive" ]; then
+  if ! command -v rt >/dev/null; then echo "rt is not in PATH: install the Rattle toolchain, or set WERMAZUL_ARCHIVE." >&2; exit 1; fi
+  echo "Building the library: rt staticlib exports" >&2
+  rt staticlib exports >&2
+  archive=$PWD/target/staticlib/libexports.a
+fi
+work=$PWD/target/bench/record
+mkdir -p "$work"
+cp "$archive" "$work/libexports.a"
+rustc --edition 2021 -C opt-level=3 -C codegen-units=1 -C target-cpu=x86-64 -L "native=$work" -l static=exports -o "$work/record" bench/record/main.rs
+"$work/record" compare
+echo "$(rustc --version | cut -d' ' -f1,2), $(nproc) cores, load before the runs: $(cut -d' ' -f1-3 /proc/loadavg)"
+for run in $(seq "${RUNS:-5}"); do
+  "$work/record" time >"$work/run"
+  paste -sd' ' "$work/run"
+done >"$work/runs"
+# Each line: proved NS tuned NS written NS.
+awk '
+  function put(name, from, to, digits) { printf "| %s | %.*f to %.*f |", name, digits, from, digits, to }
+  {
+    for (i = 1; i <= 3; i++) { t = $(2 * i); r = $2 / t; name[i] = $(2 * i - 1)
+      if (NR == 1 || t < low[i]) low[i] = t; if (NR == 1 || t > high[i]) high[i] = t
+      if (NR == 1 || r < least[i]) least[i] = r; if (NR == 1 || r > most[i]) most[i] = r }
+  }
+  END {
+    print "| the test | ns a call | proved over this one |"; print "|---|---|---|"
+    said["proved"] = "proved, by the archive"; said["tuned"] = "plain Rust, the same loops"; said["written"] = "plain Rust, by iterators that stop"
+    for (i = 1; i <= 3; i++) { put(said[name[i]], low[i], high[i], 1); printf " %.2f to %.2f |\n", least[i], most[i] }
+  }' "$work/runs"
