@@ -1,63 +1,113 @@
-//! Finds the archive of proved functions and has it linked: the one that WERMAZUL_ARCHIVE names, else the one that `rt` makes of this
-//! repository.
+//! Finds the archive of proved functions and has it linked: the one that WERMAZUL_ARCHIVE names, else the one that bindings/archive makes
+//! of this repository. Where there is none, the crate can still be checked and documented: a warning says why, and only linking fails.
 use std::env;
 use std::path::{Path, PathBuf};
 use std::process::{exit, Command};
+
+/// A call that archives have since 0.2.0.
+const SINCE_0_2_0: &[u8] = b"wermazul_layout";
 
 fn stop(why: &str) -> ! {
     eprintln!("wermazul: {why}");
     exit(1)
 }
 
-/// Rattle's compiler makes archives for x86-64 Linux alone. An archive that WERMAZUL_ARCHIVE names is taken for any target: it must then be
-/// one for that target.
-fn test_target() {
-    let is = |key: &str, value: &str| env::var(key).map_or(false, |v| v == value);
-    if !is("CARGO_CFG_TARGET_ARCH", "x86_64") || !is("CARGO_CFG_TARGET_OS", "linux") {
-        stop(
-            "the target is not x86-64 Linux, and the archive is made for no other.\n\
-             Build with --target x86_64-unknown-linux-gnu; bindings/test shows how another machine does it. Or set WERMAZUL_ARCHIVE to an\n\
-             archive for this target.",
-        );
+fn folder(variable: &str) -> PathBuf {
+    PathBuf::from(env::var_os(variable).expect("cargo sets it"))
+}
+
+/// The archive that WERMAZUL_ARCHIVE names. A relative path is taken from where the user stands, which only the shell's PWD tells, since
+/// cargo runs this program in the package's folder; if nothing is there, from the package's folder.
+fn named(path: PathBuf) -> PathBuf {
+    if path.is_absolute() {
+        return path;
+    }
+    println!("cargo:rerun-if-env-changed=PWD");
+    let places = [env::var_os("PWD").map(PathBuf::from), Some(folder("CARGO_MANIFEST_DIR"))];
+    let tried: Vec<PathBuf> = places.into_iter().flatten().map(|place| place.join(&path)).collect();
+    match tried.iter().find(|it| it.exists()) {
+        Some(found) => found.clone(),
+        None => {
+            let shown: Vec<String> = tried.iter().map(|it| it.display().to_string()).collect();
+            stop(&format!("WERMAZUL_ARCHIVE names {}, and there is no {}.", path.display(), shown.join(" and no ")))
+        }
     }
 }
 
-/// Proves the crates and makes the archive, in the repository that this crate stands in.
-fn built(root: &Path) -> PathBuf {
-    println!("cargo:rerun-if-changed={}", root.join("crates").display());
-    println!("cargo:rerun-if-changed={}", root.join("crates.txt").display());
-    let made = Command::new("rt").args(["staticlib", "exports"]).current_dir(root).output();
-    match made {
-        Err(error) => stop(&format!(
-            "`rt` could not be run ({error}).\n\
-             Install the Rattle toolchain so that `rt` is in PATH, or set WERMAZUL_ARCHIVE to a libexports.a that is already built.",
-        )),
-        Ok(output) if !output.status.success() => stop(&format!(
-            "`rt staticlib exports` failed in {}:\n{}{}\n\
-             Mend that, or set WERMAZUL_ARCHIVE to a libexports.a that is already built.",
-            root.display(),
-            String::from_utf8_lossy(&output.stdout),
-            String::from_utf8_lossy(&output.stderr),
-        )),
-        Ok(_) => root.join("target/staticlib/libexports.a"),
+/// The machine that is built for, as bindings/archive takes it.
+fn machine() -> Result<String, String> {
+    let told = |key: &str| env::var(key).unwrap_or_default();
+    let (machine, system) = (told("CARGO_CFG_TARGET_ARCH"), told("CARGO_CFG_TARGET_OS"));
+    match (machine.as_str(), system.as_str()) {
+        ("x86_64" | "aarch64", "linux") => Ok(machine),
+        _ => Err(format!("an archive can be made for x86_64 and aarch64 Linux, and the target is {machine} {system}")),
     }
+}
+
+/// The archive that bindings/archive makes, or why it does not: it proves what is not proved yet, and prints the archive's path.
+fn made() -> Result<PathBuf, String> {
+    let root = folder("CARGO_MANIFEST_DIR").join("../..");
+    let root = root.canonicalize().unwrap_or(root);
+    for source in ["crates", "crates.txt", "bindings/archive"] {
+        println!("cargo:rerun-if-changed={}", root.join(source).display());
+    }
+    let script = root.join("bindings/archive");
+    let ran = Command::new(&script).arg(machine()?).output();
+    let output = ran.map_err(|error| format!("{} could not be run: {error}", script.display()))?;
+    if output.status.success() {
+        Ok(root.join(String::from_utf8_lossy(&output.stdout).trim_end()))
+    } else {
+        Err(format!("{} failed:\n{}", script.display(), String::from_utf8_lossy(&output.stderr)))
+    }
+}
+
+/// Has the archive linked, from a copy that stays as it is, if it is one that this crate may know.
+fn link(archive: &Path, out: &Path) {
+    println!("cargo:rerun-if-changed={}", archive.display());
+    let bytes = match std::fs::read(archive) {
+        Ok(bytes) => bytes,
+        Err(error) => stop(&format!("the archive {} could not be read: {error}", archive.display())),
+    };
+    if !bytes.starts_with(b"!<arch>\n") {
+        stop(&format!("{} is no archive.", archive.display()));
+    }
+    if !bytes.windows(SINCE_0_2_0.len()).any(|it| it == SINCE_0_2_0) {
+        stop(&format!(
+            "the archive {} is older than 0.2.0, which this crate needs: build it again with bindings/archive.",
+            archive.display()
+        ));
+    }
+    if let Err(error) = std::fs::write(out.join("libexports.a"), bytes) {
+        stop(&format!("the archive could not be copied to {}: {error}", out.display()));
+    }
+    println!("cargo:rustc-link-search=native={}", out.display());
+    println!("cargo:rustc-link-lib=static=exports");
+}
+
+/// Says why there is no archive, and has a library linked that there is not, so that a program's linking fails with its name.
+fn go_without(why: &str, out: &Path) {
+    for line in why.lines() {
+        println!("cargo:warning={line}");
+    }
+    println!("cargo:warning=So there is no archive of proved functions: this crate can be checked and documented, but no program linked with it.");
+    println!(
+        "cargo:warning=Install the Rattle toolchain, so that `rt` is in PATH, or set WERMAZUL_ARCHIVE to an archive that is already built."
+    );
+    println!("cargo:rustc-link-lib=dylib=wermazul_archive_is_missing");
+    // A file that there is not has this program run again at the next build.
+    println!("cargo:rerun-if-changed={}", out.join("no_archive").display());
 }
 
 fn main() {
     println!("cargo:rerun-if-changed=build.rs");
     println!("cargo:rerun-if-env-changed=WERMAZUL_ARCHIVE");
-    let archive = match env::var_os("WERMAZUL_ARCHIVE") {
-        Some(path) => PathBuf::from(path),
-        None => {
-            test_target();
-            built(&Path::new(&env::var_os("CARGO_MANIFEST_DIR").unwrap()).join("../.."))
-        }
+    let out = folder("OUT_DIR");
+    let archive = match env::var_os("WERMAZUL_ARCHIVE").filter(|it| !it.is_empty()) {
+        Some(path) => Ok(named(PathBuf::from(path))),
+        None => made(),
     };
-    println!("cargo:rerun-if-changed={}", archive.display());
-    let out = PathBuf::from(env::var_os("OUT_DIR").unwrap());
-    if let Err(error) = std::fs::copy(&archive, out.join("libexports.a")) {
-        stop(&format!("the archive {} could not be read: {error}", archive.display()));
+    match archive {
+        Ok(archive) => link(&archive, &out),
+        Err(why) => go_without(&why, &out),
     }
-    println!("cargo:rustc-link-search=native={}", out.display());
-    println!("cargo:rustc-link-lib=static=exports");
 }

@@ -1,7 +1,13 @@
-//! Lines of the feed. A line has its line feed.
+//! Lines of the feed: read, written, and found in a text. A line has its line feed.
+use crate::error::Error;
 use crate::ffi;
+use crate::linked::require_ours;
+use crate::orderbook::{BookDelta, DeltaAction, OrderBook};
 use crate::told::Told;
-use crate::{BookDelta, DeltaAction, Error, OrderBook, Side};
+use crate::types::Side;
+
+/// The bytes of the longest line, its line feed included: a buffer of this length holds any.
+pub const MAX_LINE: usize = 4_121;
 
 /// What a line is.
 #[derive(Clone, Copy, Debug, PartialEq, Eq)]
@@ -33,12 +39,14 @@ fn kind_of(told: &Told) -> Result<LineKind, Error> {
 
 /// What a line is; 12 if it is no frame's.
 pub fn line_kind(line: &[u8]) -> Result<LineKind, Error> {
+    require_ours();
     // SAFETY: pointer and length are those of one slice, which is lent for the call.
     kind_of(&unsafe { ffi::wermazul_line_kind(line.as_ptr(), line.len()) })
 }
 
 /// Reads a line; 12 if it is no frame's.
 pub fn read_line(line: &[u8]) -> Result<Frame, Error> {
+    require_ours();
     // SAFETY: pointer and length are those of one slice, which is lent for the call.
     let read = unsafe { ffi::wermazul_read_line(line.as_ptr(), line.len()) };
     match kind_of(&read.told)? {
@@ -55,6 +63,7 @@ pub fn read_line(line: &[u8]) -> Result<Frame, Error> {
 
 /// The length of a text's first line, its line feed included; all of the text where it has none.
 pub fn line_end(text: &[u8]) -> usize {
+    require_ours();
     // SAFETY: pointer and length are those of one slice, which is lent for the call.
     unsafe { ffi::wermazul_line_end(text.as_ptr(), text.len()) as usize }
 }
@@ -63,6 +72,7 @@ pub fn line_end(text: &[u8]) -> usize {
 pub fn write_delta(delta: BookDelta, out: &mut [u8]) -> Result<usize, Error> {
     let BookDelta { side, price, quantity, action, sequence } = delta;
     let (side, action) = (side as u64, action as u64);
+    require_ours();
     // SAFETY: pointer and length are those of one slice, which is lent to this call alone.
     unsafe { ffi::wermazul_write_delta(side, action, price, quantity, sequence, out.as_mut_ptr(), out.len()) }.length()
 }

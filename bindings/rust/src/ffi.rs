@@ -1,10 +1,11 @@
-//! The functions of the archive as it exports them, and the records that only they speak of. Nothing checks these declarations against
-//! the archive: see README.md, "What crosses the boundary unchecked".
-use crate::book::OrderBook;
-use crate::ledger::PositionLedger;
+//! The functions of the archive as it exports them, and the records that only they speak of. Of these declarations only the sizes of
+//! records are held to the archive: see README.md, "What crosses the boundary unchecked". That they are the archive's is what every
+//! SAFETY line takes for granted.
+use crate::orderbook::OrderBook;
+use crate::position::PositionLedger;
 use crate::receiver::Receiver;
 use crate::told::Told;
-use crate::MAX_LEVELS;
+use crate::types::MAX_LEVELS;
 
 #[cfg(test)]
 mod layout;
@@ -48,8 +49,10 @@ pub(crate) struct LineTold {
     pub book: OrderBook,
 }
 
-/// The archive's version, and the size in bytes of each record that crosses, as the archive has them.
+/// Which archive this is: its version, as major times 1,000,000, minor times 1,000 and patch, and the bytes of each record that crosses.
+/// This record keeps its own shape from version to version, so that any crate can ask any archive.
 #[repr(C)]
+#[derive(Clone, Copy, Debug, PartialEq, Eq)]
 pub(crate) struct Layout {
     pub version: u64,
     pub book: u64,

@@ -1,8 +1,11 @@
-//! The receiver that takes the feed's lines.
-use crate::ask::{Answer, Listing, Question, Quote};
+//! The receiver that takes the feed's lines, and answers as its book does while it is live.
+use crate::error::Error;
 use crate::ffi;
-use crate::named::{levels, named_questions};
-use crate::{Error, OrderBook, PriceLevel, Quotient, Side, MAX_LEVELS};
+use crate::linked::require_ours;
+use crate::orderbook::lists::{levels, named_listings};
+use crate::orderbook::named::named_questions;
+use crate::orderbook::{Answer, Listing, OrderBook, PriceLevel, Question, Quote};
+use crate::types::{Price, Quantity, Quotient, Side, MAX_LEVELS};
 
 /// The receiver of a feed. While it waits every question is refused with 16. Any record may be made and asked: every call tests it, and
 /// refuses one that is no receiver with 1.
@@ -18,7 +21,8 @@ pub struct Receiver {
 impl Receiver {
     /// Waiting, with an empty book at sequence 0.
     pub fn new() -> Receiver {
-        // SAFETY: nothing goes over.
+        require_ours();
+        // SAFETY: nothing goes over, and the record comes back by value.
         unsafe { ffi::wermazul_receiver() }
     }
 
@@ -130,3 +134,4 @@ impl Default for Receiver {
 }
 
 named_questions!(Receiver);
+named_listings!(Receiver);

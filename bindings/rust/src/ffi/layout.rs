@@ -1,7 +1,8 @@
 //! The layout that C gives each record on x86-64, worked out from the records' declarations in the archive's sources.
 use super::*;
+use crate::orderbook::Levels;
+use crate::position::Position;
 use crate::told::Whole;
-use crate::{Levels, Position};
 use std::mem::{size_of, MaybeUninit};
 use std::ptr::addr_of;
 
@@ -19,6 +20,12 @@ macro_rules! layout {
 fn answers() {
     assert_eq!(layout!(Whole, size, negative), [16, 0, 8]);
     assert_eq!(layout!(Told, number, count, values), [80, 0, 8, 16]);
+}
+
+#[test]
+fn the_archive_itself() {
+    let offsets = layout!(Layout, version, book, ledger, held, told, counts, counts_told, ledger_told, turn_told, line_told);
+    assert_eq!(offsets, [80, 0, 8, 16, 24, 32, 40, 48, 56, 64, 72]);
 }
 
 #[test]

@@ -1,6 +1,6 @@
-//! Questions and listings as values, and the answers to them. Every method that asks goes by these.
-use crate::told::{Told, Whole};
-use crate::{Error, PriceLevel, Quotient, Side};
+//! Questions and listings as values. Every method that asks goes by these.
+use super::answer::Kind;
+use crate::types::{Price, Quantity, Side};
 
 /// Any question to a book. A second name of the original shares its twin's question, and a side is an argument.
 #[derive(Clone, Copy, Debug, PartialEq, Eq)]
@@ -24,9 +24,9 @@ pub enum Question {
     /// The prices, each weighted with the other side's best quantity.
     WeightedMid,
     /// The quantity of a side's level at a price.
-    DepthAt(Side, u32),
+    DepthAt(Side, Price),
     /// Whether a side has a level at a price.
-    HasPrice(Side, u32),
+    HasPrice(Side, Price),
     /// How many levels a side has.
     LevelCount(Side),
     /// How many levels both sides have.
@@ -40,7 +40,7 @@ pub enum Question {
     /// The quantity of a side.
     TotalVolume(Side),
     /// The quantity of a side at a price and better.
-    CumulativeDepth(Side, u32),
+    CumulativeDepth(Side, Price),
     /// The quantity of the best levels of a side, as many as given.
     CumulativeQuantity(Side, usize),
     /// The smallest gap between neighbouring prices of either side.
@@ -56,35 +56,11 @@ pub enum Question {
     /// The quantity of the best bids over that of both sides, as many levels a side as given.
     BidDepthSkew(usize),
     /// The cost of filling a target from a side, over the target.
-    VwapForQty(Side, u32),
+    VwapForQty(Side, Quantity),
     /// The same for a trade: Bid buys from the asks, Ask sells to the bids.
-    PriceImpact(Side, u32),
+    PriceImpact(Side, Quantity),
     /// The price of the level at which the running total of a side reaches the target.
     PriceAtVolume(Side, u64),
-}
-
-/// What a question is answered with.
-#[derive(Clone, Copy, Debug, PartialEq, Eq)]
-pub enum Answer {
-    /// A price, a quantity, a count or a sequence.
-    Number(u64),
-    /// Yes or no.
-    Flag(bool),
-    /// A level.
-    Level(PriceLevel),
-    /// Both best levels.
-    Quote(Quote),
-    /// An exact quotient.
-    Ratio(Quotient),
-}
-
-/// The best bid and the best ask.
-#[derive(Clone, Copy, Debug, PartialEq, Eq)]
-pub struct Quote {
-    /// The best bid.
-    pub bid: PriceLevel,
-    /// The best ask.
-    pub ask: PriceLevel,
 }
 
 /// What is listed into a lent buffer: price, quantity, price, quantity.
@@ -95,16 +71,7 @@ pub enum Listing {
     /// The best levels of both sides, at most as many a side as given, bids first.
     Snapshot(usize),
     /// The levels of a side from one price to another, upward.
-    Between(Side, u32, u32),
-}
-
-/// The archive tells values alone; what they are hangs on the question.
-pub(crate) enum Kind {
-    Number,
-    Flag,
-    Level,
-    Quote,
-    Ratio,
+    Between(Side, Price, Price),
 }
 
 /// A question as the archive takes it.
@@ -172,80 +139,5 @@ impl Listing {
             Listing::Between(side, lo, hi) => (2, side, u64::from(lo), hi),
         };
         Listed { number, side: side as u64, from, to }
-    }
-}
-
-fn level(price: Whole, quantity: Whole) -> PriceLevel {
-    PriceLevel { price: price.word(), quantity: quantity.word() }
-}
-
-const OF_ITS_KIND: &str = "each question has answers of one kind";
-
-impl Answer {
-    /// What was told, as an answer of its kind.
-    #[inline(always)]
-    pub(crate) fn of(kind: Kind, told: &Told) -> Result<Answer, Error> {
-        Ok(match kind {
-            Kind::Number => {
-                let [number] = told.values()?;
-                Answer::Number(number.long())
-            }
-            Kind::Flag => {
-                let [flag] = told.values()?;
-                Answer::Flag(flag.long() != 0)
-            }
-            Kind::Level => {
-                let [price, quantity] = told.values()?;
-                Answer::Level(level(price, quantity))
-            }
-            Kind::Quote => {
-                let [bid, lots, ask, lots_asked] = told.values()?;
-                Answer::Quote(Quote { bid: level(bid, lots), ask: level(ask, lots_asked) })
-            }
-            Kind::Ratio => {
-                let [numerator, denominator] = told.values()?;
-                Answer::Ratio(Quotient { numerator: numerator.signed(), denominator: denominator.long() })
-            }
-        })
-    }
-
-    pub(crate) fn number(self) -> u64 {
-        match self {
-            Answer::Number(x) => x,
-            _ => unreachable!("{OF_ITS_KIND}"),
-        }
-    }
-
-    /// A price or the quantity of a level, which fit 32 bits.
-    pub(crate) fn word(self) -> u32 {
-        self.number().try_into().expect("prices and quantities of levels are within their limits")
-    }
-
-    pub(crate) fn flag(self) -> bool {
-        match self {
-            Answer::Flag(x) => x,
-            _ => unreachable!("{OF_ITS_KIND}"),
-        }
-    }
-
-    pub(crate) fn level(self) -> PriceLevel {
-        match self {
-            Answer::Level(x) => x,
-            _ => unreachable!("{OF_ITS_KIND}"),
-        }
-    }
-
-    pub(crate) fn quote(self) -> Quote {
-        match self {
-            Answer::Quote(x) => x,
-            _ => unreachable!("{OF_ITS_KIND}"),
-        }
-    }
-
-    pub(crate) fn ratio(self) -> Quotient {
-        match self {
-            Answer::Ratio(x) => x,
-            _ => unreachable!("{OF_ITS_KIND}"),
-        }
     }
 }

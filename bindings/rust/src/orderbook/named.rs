@@ -1,23 +1,4 @@
-//! The questions by the original's names, for a record that has `ask`, `list` and `book`: a book and a receiver have the same.
-use crate::{Error, PriceLevel, MAX_LEVELS};
-
-/// The levels that fit a short buffer.
-const SHORT: usize = 32;
-
-/// The levels that a listing writes: its call in a buffer that has room for as many, of which a short one is the sooner made.
-pub(crate) fn levels(most: usize, list: impl FnOnce(&mut [u32]) -> Result<usize, Error>) -> Result<Vec<PriceLevel>, Error> {
-    if most <= SHORT {
-        levels_in(&mut [0; 2 * SHORT], list)
-    } else {
-        levels_in(&mut [0; 4 * MAX_LEVELS], list)
-    }
-}
-
-fn levels_in(places: &mut [u32], list: impl FnOnce(&mut [u32]) -> Result<usize, Error>) -> Result<Vec<PriceLevel>, Error> {
-    let filled = list(places)?;
-    let pairs = places[..filled].chunks_exact(2);
-    Ok(pairs.map(|pair| PriceLevel { price: pair[0], quantity: pair[1] }).collect())
-}
+//! The questions by the original's names, for a record that has `ask`: a book and a receiver have the same.
 
 macro_rules! named_questions {
     ($record:ty) => {
@@ -33,22 +14,22 @@ macro_rules! named_questions {
             }
 
             /// The best bid's price.
-            pub fn best_bid_price(&self) -> Result<u32, Error> {
+            pub fn best_bid_price(&self) -> Result<Price, Error> {
                 Ok(self.ask(Question::BestPrice(Side::Bid))?.word())
             }
 
             /// The best ask's price.
-            pub fn best_ask_price(&self) -> Result<u32, Error> {
+            pub fn best_ask_price(&self) -> Result<Price, Error> {
                 Ok(self.ask(Question::BestPrice(Side::Ask))?.word())
             }
 
             /// The best bid's quantity.
-            pub fn best_bid_qty(&self) -> Result<u32, Error> {
+            pub fn best_bid_qty(&self) -> Result<Quantity, Error> {
                 Ok(self.ask(Question::BestQuantity(Side::Bid))?.word())
             }
 
             /// The best ask's quantity.
-            pub fn best_ask_qty(&self) -> Result<u32, Error> {
+            pub fn best_ask_qty(&self) -> Result<Quantity, Error> {
                 Ok(self.ask(Question::BestQuantity(Side::Ask))?.word())
             }
 
@@ -58,7 +39,7 @@ macro_rules! named_questions {
             }
 
             /// Best ask less best bid.
-            pub fn spread(&self) -> Result<u32, Error> {
+            pub fn spread(&self) -> Result<Price, Error> {
                 Ok(self.ask(Question::Spread)?.word())
             }
 
@@ -88,12 +69,12 @@ macro_rules! named_questions {
             }
 
             /// The quantity of a side's level at a price; 10 if there is no such level.
-            pub fn depth_at(&self, side: Side, price: u32) -> Result<u32, Error> {
+            pub fn depth_at(&self, side: Side, price: Price) -> Result<Quantity, Error> {
                 Ok(self.ask(Question::DepthAt(side, price))?.word())
             }
 
             /// Whether a side has a level at a price.
-            pub fn has_price(&self, side: Side, price: u32) -> Result<bool, Error> {
+            pub fn has_price(&self, side: Side, price: Price) -> Result<bool, Error> {
                 Ok(self.ask(Question::HasPrice(side, price))?.flag())
             }
 
@@ -153,7 +134,7 @@ macro_rules! named_questions {
             }
 
             /// The quantity of a side at a price and better.
-            pub fn cumulative_depth(&self, side: Side, price: u32) -> Result<u64, Error> {
+            pub fn cumulative_depth(&self, side: Side, price: Price) -> Result<u64, Error> {
                 Ok(self.ask(Question::CumulativeDepth(side, price))?.number())
             }
 
@@ -168,7 +149,7 @@ macro_rules! named_questions {
             }
 
             /// The smallest gap between neighbouring prices of either side.
-            pub fn tick_size(&self) -> Result<u32, Error> {
+            pub fn tick_size(&self) -> Result<Price, Error> {
                 Ok(self.ask(Question::TickSize)?.word())
             }
 
@@ -203,60 +184,18 @@ macro_rules! named_questions {
             }
 
             /// The cost of filling `qty` from a side, best first, over `qty`; 7 if the side has less. For 0 it is 0 over 1.
-            pub fn vwap_for_qty(&self, side: Side, qty: u32) -> Result<Quotient, Error> {
+            pub fn vwap_for_qty(&self, side: Side, qty: Quantity) -> Result<Quotient, Error> {
                 Ok(self.ask(Question::VwapForQty(side, qty))?.ratio())
             }
 
             /// The same for a trade: Bid buys from the asks, Ask sells to the bids. 10 for 0 or too little depth.
-            pub fn price_impact(&self, side: Side, qty: u32) -> Result<Quotient, Error> {
+            pub fn price_impact(&self, side: Side, qty: Quantity) -> Result<Quotient, Error> {
                 Ok(self.ask(Question::PriceImpact(side, qty))?.ratio())
             }
 
             /// The price of the first level at which the running total of a side reaches the target, else the last level's.
-            pub fn price_at_volume(&self, side: Side, target_qty: u64) -> Result<u32, Error> {
+            pub fn price_at_volume(&self, side: Side, target_qty: u64) -> Result<Price, Error> {
                 Ok(self.ask(Question::PriceAtVolume(side, target_qty))?.word())
-            }
-
-            /// The best `n` bids.
-            pub fn top_bids(&self, n: usize) -> Result<Vec<PriceLevel>, Error> {
-                levels(n, |out| self.list(Listing::Top(Side::Bid, n), out))
-            }
-
-            /// The best `n` asks.
-            pub fn top_asks(&self, n: usize) -> Result<Vec<PriceLevel>, Error> {
-                levels(n, |out| self.list(Listing::Top(Side::Ask, n), out))
-            }
-
-            /// Second name of `top_bids`.
-            pub fn bid_depth(&self, n: usize) -> Result<Vec<PriceLevel>, Error> {
-                self.top_bids(n)
-            }
-
-            /// Second name of `top_asks`.
-            pub fn ask_depth(&self, n: usize) -> Result<Vec<PriceLevel>, Error> {
-                self.top_asks(n)
-            }
-
-            /// Second name of `top_bids`.
-            pub fn top_n_bid_levels(&self, n: usize) -> Result<Vec<PriceLevel>, Error> {
-                self.top_bids(n)
-            }
-
-            /// Second name of `top_asks`.
-            pub fn top_n_ask_levels(&self, n: usize) -> Result<Vec<PriceLevel>, Error> {
-                self.top_asks(n)
-            }
-
-            /// The best `n` bids and the best `n` asks.
-            pub fn snapshot(&self, n: usize) -> Result<(Vec<PriceLevel>, Vec<PriceLevel>), Error> {
-                let mut bids = levels(n.saturating_mul(2), |out| self.list(Listing::Snapshot(n), out))?;
-                let asks = bids.split_off(self.book().bids.count.min(n));
-                Ok((bids, asks))
-            }
-
-            /// The levels of a side with prices from `lo` to `hi`, upward; 2 if `lo` is above `hi`.
-            pub fn price_levels_between(&self, side: Side, lo: u32, hi: u32) -> Result<Vec<PriceLevel>, Error> {
-                levels(MAX_LEVELS, |out| self.list(Listing::Between(side, lo, hi), out))
             }
         }
     };

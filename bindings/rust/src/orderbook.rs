@@ -1,16 +1,26 @@
-//! The order book.
-use crate::ask::{Answer, Listing, Question, Quote};
+//! The order book: deltas that change it, questions by the original's names or as a value, and levels listed.
+mod answer;
+mod ask;
+pub(crate) mod lists;
+pub(crate) mod named;
+
+pub use answer::{Answer, Quote};
+pub use ask::{Listing, Question};
+
+use crate::error::Error;
 use crate::ffi;
-use crate::named::{levels, named_questions};
-use crate::{Error, Quotient, Side, MAX_LEVELS};
+use crate::linked::require_ours;
+use crate::types::{Price, Quantity, Quotient, Side, MAX_LEVELS};
+use lists::{levels, named_listings};
+use named::named_questions;
 
 /// A level: so many lots at a price.
 #[derive(Clone, Copy, Debug, PartialEq, Eq)]
 pub struct PriceLevel {
     /// 1..=100,000,000.
-    pub price: u32,
+    pub price: Price,
     /// 0..=1,000,000,000.
-    pub quantity: u32,
+    pub quantity: Quantity,
 }
 
 /// What a delta does to its level.
@@ -28,9 +38,9 @@ pub struct BookDelta {
     /// The level's side.
     pub side: Side,
     /// The level's price.
-    pub price: u32,
+    pub price: Price,
     /// The new quantity.
-    pub quantity: u32,
+    pub quantity: Quantity,
     /// Set or Remove.
     pub action: DeltaAction,
     /// The book's sequence plus 1.
@@ -42,9 +52,9 @@ pub struct BookDelta {
 #[derive(Clone, Debug, PartialEq, Eq)]
 pub struct Levels {
     /// The prices.
-    pub prices: [u32; MAX_LEVELS],
+    pub prices: [Price; MAX_LEVELS],
     /// The quantities.
-    pub quantities: [u32; MAX_LEVELS],
+    pub quantities: [Quantity; MAX_LEVELS],
     /// How many levels there are.
     pub count: usize,
 }
@@ -64,7 +74,8 @@ pub struct OrderBook {
 impl OrderBook {
     /// No levels, sequence 0.
     pub fn new() -> OrderBook {
-        // SAFETY: nothing goes over.
+        require_ours();
+        // SAFETY: nothing goes over, and the record comes back by value.
         unsafe { ffi::wermazul_book() }
     }
 
@@ -211,3 +222,4 @@ impl Default for OrderBook {
 }
 
 named_questions!(OrderBook);
+named_listings!(OrderBook);
