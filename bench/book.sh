@@ -7,24 +7,13 @@
 # Needs: the Rattle toolchain, Rust 1.66 or newer, the published modules, and the crates rust_decimal 1.23.1 and thiserror 1.0.38 (Debian
 # 12's packages librust-rust-decimal-dev and librust-thiserror-dev, else cargo fetches them).
 set -euo pipefail
-cd "$(dirname "${BASH_SOURCE[0]}")/.."
-machine=$(uname -sm)
-if [ "$machine" = "Linux x86_64" ]; then
-  echo "This machine is x86-64: the archive as delivered."
-else
-  echo "This machine is ${machine#* }: the archive delivered is for x86-64. Here its module is compiled for this processor instead."
-fi
-NATIVE=1
+root=$(dirname "$(readlink -f "${BASH_SOURCE[0]}")")/..
 WORK_NAME=bench_book
-. oracle/prepare.sh
-prepare "${1:-../shared/docs/src}"
-
-if [ "$machine" = "Linux x86_64" ] || [ -n "${WERMAZUL_ARCHIVE:-}" ]; then
-  make_archive
-else
-  bench/native-archive.sh
-  export WERMAZUL_ARCHIVE=$PWD/target/bench/native/libexports.a
-fi
+. "$root/oracle/prepare.sh"
+[ -z "$RUNNER" ] || { echo "$0: a time under an emulator says nothing, so no other processor than this machine's" >&2; exit 1; }
+prepare "${1:-$root/../shared/docs/src}"
+use_archive
+echo "This machine is $MACHINE, and so is the archive."
 mkdir -p "$WORK/book"
 put bench/book/Cargo.toml "$WORK/book/Cargo.toml"
 rm -f "$WORK/book/Cargo.lock"

@@ -1,7 +1,7 @@
 #!/usr/bin/env python3
 """Times the feed program on a snapshot and 1,000,000 delta lines, from a file and from a pipe, five runs each.
 
-Needs target/bin/feed (`rt check feed`). The lines are random Sets and Removes at 100 prices a side, all of them taken.
+bindings/program makes the program, for this machine's processor. The lines are random Sets and Removes at 100 prices a side, all of them taken.
 """
 import platform
 import random
@@ -11,7 +11,7 @@ import time
 from pathlib import Path
 
 ROOT = Path(__file__).resolve().parent.parent
-PROGRAM, FEED, COUNT = ROOT / "target/bin/feed", ROOT / "target/bench/million.feed", 1_000_000
+FEED, COUNT = ROOT / "target/bench/million.feed", 1_000_000
 
 
 def line(body):
@@ -37,8 +37,17 @@ def timed(command):
     return time.perf_counter() - start
 
 
-if platform.machine() != "x86_64":
-    sys.exit("The feed program is compiled for x86-64, and its time under an emulator says nothing.")
+def program():
+    made = subprocess.run([ROOT / "bindings/program"], stdout=subprocess.PIPE, text=True)
+    if made.returncode != 0:
+        sys.exit("There is no feed program to time.")
+    path = Path(made.stdout.strip())
+    if platform.machine() != "x86_64" and path == ROOT / "target/bin/feed":
+        sys.exit("That program is for x86-64, and its time under an emulator says nothing.")
+    return path
+
+
+PROGRAM = program()
 write_feed()
 ends = subprocess.run([PROGRAM, FEED], capture_output=True, check=True).stdout.decode().split("\n")
 taken = sum(1 for row in ends if row.endswith(" 0") and row[:1].isdigit())

@@ -1,43 +1,57 @@
-# How x86-64 Rust is built and run here, for every script that needs it: source this file. Rattle makes archives for x86-64 Linux alone.
-# On such a machine `cargo` from PATH does all; on another, Debian's own compiler builds for x86-64 and an emulator runs what it builds.
+# How Rust is built and run for a processor, for every script that needs it: source this file. For this machine's own, `cargo` from PATH does
+# all; for the other, a cargo whose compiler has that processor's library builds, from PATH or Debian's, and an emulator runs what it builds.
 #
-# Takes: NATIVE   not empty: builds for this machine itself, whatever it is, against an archive for it (WERMAZUL_ARCHIVE)
-# Gives: TARGET   the Rust name of the machine that is built for
-#        RUNNER   what runs a program built for it (empty where it runs as it is)
+# Takes: PROCESSOR   x86_64 or aarch64, by default this machine's
+# Gives: TARGET      its Rust name
+#        RUNNER      what runs a program built for it (empty where it runs as it is)
 #        run_cargo COMMAND ARGUMENTS...   cargo with these; programs end in target/$TARGET/{debug,release} of their crate
+#        what needs.sh gives
+. "$(dirname "$(readlink -f "${BASH_SOURCE[0]}")")/needs.sh"
 
-TARGET=x86_64-unknown-linux-gnu
-[ -z "${NATIVE:-}" ] || TARGET=$(uname -m)-unknown-linux-gnu
+PROCESSOR=${PROCESSOR:-$MACHINE}
+TARGET=$PROCESSOR-unknown-linux-gnu
 RUNNER=
+case $(uname -s)-$PROCESSOR in
+  Linux-x86_64 | Linux-aarch64) ;;
+  *) echo "$0: the library is for Linux on x86_64 and aarch64, and this is $(uname -s) and $PROCESSOR" >&2; exit 1 ;;
+esac
+
+# Where cargo stands whose compiler has the library for TARGET, and nothing where there is none.
+cargo_folder() {
+  local folder
+  for folder in "$(dirname "$(command -v rustc || echo /usr/bin/rustc)")" /usr/bin; do
+    if [ -d "$("$folder/rustc" --print target-libdir --target "$TARGET" 2>/dev/null)" ] && [ -x "$folder/cargo" ]; then
+      echo "$folder"
+      return
+    fi
+  done
+}
 
 # The Debian packages that the other way needs and this machine lacks.
 missing_packages() {
-  [ -x /usr/bin/cargo ] || echo cargo
-  [ -x /usr/bin/rustc ] || echo rustc
-  compgen -G "/usr/lib/rustlib/$TARGET/lib/libstd-*.rlib" >/dev/null || echo libstd-rust-dev:amd64
-  command -v x86_64-linux-gnu-gcc >/dev/null || echo gcc-x86-64-linux-gnu
-  [ -e /usr/x86_64-linux-gnu/lib/libc.so ] || echo libc6-dev-amd64-cross
-  command -v qemu-x86_64 >/dev/null || echo qemu-user
+  local prefix=$PROCESSOR-linux-gnu debian=arm64
+  [ "$PROCESSOR" = aarch64 ] || debian=amd64
+  [ -n "$CARGO_FOLDER" ] || echo "cargo rustc libstd-rust-dev:$debian"
+  command -v "$prefix-gcc" >/dev/null || echo "gcc-${prefix/_/-}"
+  [ -e "/usr/$prefix/lib/libc.so" ] || echo libc6-dev-$debian-cross
+  command -v "qemu-$PROCESSOR" >/dev/null || echo qemu-user
 }
 
-if [ "$(uname -s)" = Linux ] && [ "$(uname -m)-unknown-linux-gnu" = "$TARGET" ]; then
-  if ! command -v cargo >/dev/null; then
-    echo "cargo is not in PATH: install Rust 1.63 or newer (https://rustup.rs, or the packages cargo and rustc)." >&2
-    exit 1
-  fi
+if [ "$PROCESSOR" = "$MACHINE" ]; then
+  need cargo "it builds Rust, 1.63 or newer (https://rustup.rs, or Debian's cargo and rustc)"
+  need cc "it links what cargo builds (Debian: gcc and libc6-dev)"
   run_cargo() { cargo "$1" --target "$TARGET" "${@:2}"; }
 else
-  RUNNER="qemu-x86_64 -L /"
+  RUNNER="qemu-$PROCESSOR -L /usr/$PROCESSOR-linux-gnu"
+  CARGO_FOLDER=$(cargo_folder)
   lacking="$(missing_packages | tr '\n' ' ')"
   if [ -n "$lacking" ]; then
-    echo "This machine is not x86-64 Linux, and these Debian packages are missing to build for one and emulate it: $lacking" >&2
-    echo "As root: dpkg --add-architecture amd64 && apt-get update && apt-get install $lacking" >&2
+    echo "$0: this machine is not $PROCESSOR, and these Debian packages are missing to build for it and emulate it: $lacking" >&2
     exit 1
   fi
   run_cargo() {
-    RUSTC=/usr/bin/rustc RUSTDOC=/usr/bin/rustdoc \
-      CARGO_TARGET_X86_64_UNKNOWN_LINUX_GNU_LINKER=x86_64-linux-gnu-gcc \
-      CARGO_TARGET_X86_64_UNKNOWN_LINUX_GNU_RUNNER="$RUNNER" \
-      /usr/bin/cargo "$1" --target "$TARGET" "${@:2}"
+    local name=CARGO_TARGET_${PROCESSOR^^}_UNKNOWN_LINUX_GNU
+    env RUSTC="$CARGO_FOLDER/rustc" RUSTDOC="$CARGO_FOLDER/rustdoc" "${name}_LINKER=$PROCESSOR-linux-gnu-gcc" "${name}_RUNNER=$RUNNER" \
+      "$CARGO_FOLDER/cargo" "$1" --target "$TARGET" "${@:2}"
   }
 fi

@@ -1,13 +1,14 @@
-# For oracle/run, oracle/mutants and oracle/replay: source this file in the repository's root.
+# For oracle/run, oracle/mutants, oracle/replay and bench/book.sh: source this file.
 #
-# Gives: prepare FOLDER   lays out target/oracle: the published modules of FOLDER, unchanged, beside stand-ins for the two that were not
-#                         supplied, and the crate that compares
-#        build            builds it; the program is $PROGRAM
+# Gives: prepare FOLDER   goes to the repository's root and lays out target/oracle: the published modules of FOLDER, unchanged, beside
+#                         stand-ins for the two that were not supplied, and the crate that compares
+#        build            builds it, and the library first; the program is $PROGRAM
 #        oracle ARGUMENTS...   runs it
 # Takes: WORK_NAME, another folder of target to work in
 
-. bindings/rust-env.sh
-WORK=$PWD/target/${WORK_NAME:-oracle}
+ROOT=$(cd "$(dirname "$(readlink -f "${BASH_SOURCE[0]}")")/.." && pwd)
+. "$ROOT/bindings/rust-env.sh"
+WORK=$ROOT/target/${WORK_NAME:-oracle}
 PROGRAM=$WORK/target/$TARGET/release/oracle
 PUBLISHED="error.rs orderbook/mod.rs position/mod.rs"
 # Copies a file where it differs, so that what is built stays built.
@@ -41,9 +42,11 @@ use_debian_sources() {
 }
 
 prepare() {
-  local stand_ins=oracle/stand_ins
+  local stand_ins=oracle/stand_ins folder
+  folder=$(readlink -m "$1")
+  cd "$ROOT"
   mkdir -p "$WORK/original/src/orderbook" "$WORK/original/src/position" "$WORK/original_checked" "$WORK/.cargo"
-  copy_published "$1"
+  copy_published "$folder"
   put $stand_ins/lib.rs "$WORK/original/src/lib.rs"
   put $stand_ins/types.rs "$WORK/original/src/types.rs"
   put $stand_ins/kelly.rs "$WORK/original/src/position/kelly.rs"
@@ -56,17 +59,8 @@ prepare() {
   use_debian_sources
 }
 
-# The library as it stands now, unless an archive is named.
-make_archive() {
-  if [ -z "${WERMAZUL_ARCHIVE:-}" ]; then
-    echo "Building the library: rt staticlib exports" >&2
-    rt staticlib exports >&2
-    export WERMAZUL_ARCHIVE=$PWD/target/staticlib/libexports.a
-  fi
-}
-
 build() {
-  make_archive
+  use_archive "$PROCESSOR"
   (cd "$WORK" && run_cargo build --release $OFFLINE --quiet)
 }
 

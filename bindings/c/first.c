@@ -1,4 +1,5 @@
-/* Calls every function of wermazul.h once or more, and holds each answer to the paper's; ends with 1 at the first that is another. */
+/* Calls every function of wermazul.h once or more, and holds each answer to the one expected; ends with 1 at the first that is another, and with 2 where
+   the archive is not the header's. */
 #include "wermazul.h"
 
 #include <stdio.h>
@@ -36,7 +37,7 @@ static void expect(const char *what, bool holds)
 static void archive(void)
 {
     wermazul_layout_record there = wermazul_layout();
-    expect("its version", there.version == 2000);
+    expect("its version", there.version == WERMAZUL_VERSION);
     expect("its book", there.book == sizeof(wermazul_book_record));
     expect("its ledger", there.ledger == sizeof(wermazul_ledger_record));
     expect("its receiver", there.held == sizeof(wermazul_held));
@@ -212,6 +213,11 @@ static void receivers(wermazul_book_record k)
 
 int main(void)
 {
+    if (!wermazul_matches()) {
+        printf("The archive is of version %lu, or its records have other sizes, and the header is of version %d.\n", wermazul_layout().version,
+               WERMAZUL_VERSION);
+        return 2;
+    }
     archive();
     layouts();
     wermazul_book_record k = book_k();

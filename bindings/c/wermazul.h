@@ -1,18 +1,20 @@
-/* The proved library for C and C++, on x86-64 Linux: link target/staticlib/libexports.a, which `rt staticlib exports` makes.
+/* The proved library for C and C++, on x86-64 and aarch64 Linux: link the archive whose path `bindings/archive` prints, or that `bindings/install`
+   puts beside this header. Ask wermazul_matches(), at the end, once at the start of a program.
 
    A book or a receiver is lent as its four rows with its counts beside them, and is asked and changed where it stands; a ledger goes by value
    and comes back. Any record may be handed in, and each call tests it first.
 
-   An answer is the paper's number, 0 or a refusal, with the count of its values and up to four of them; those behind the count are 0. Sides
+   An answer is a number of docs/ANSWERS.md, 0 or a refusal, with the count of its values and up to four of them; those behind the count are 0. Sides
    are 0 bid and 1 ask, actions 0 Set and 1 Remove; a number that names nothing gives 2, after 1 for a record that is none. docs/PROMISES.md
    has each call's promise.
 
    What the caller must keep, since no call can test it:
-   - No pointer may be null, not even with a length of 0.
-   - A row has 128 places. A slice is a pointer and a length, counted in elements: numbers of 32 bits or bytes, as the pointer says.
+   - No pointer may be null: no row's, and no slice's, not even with a length of 0.
+   - A row has 128 places. A slice is a pointer and a length, counted in elements and not in bytes: numbers of 32 bits for listings and prices,
+     bytes for lines. All places of the length are there.
    - A pointer is aligned as C aligns what it points to: 4 bytes for numbers of 32 bits. A record that is declared is aligned right.
    - What a call writes to, a row or a buffer, overlaps nothing else that it is lent, and no other thread uses it meanwhile.
-   Nothing checks these declarations against the archive. */
+   wermazul_matches() compares the version and the sizes of the records with the archive's; nothing compares the functions' own types. */
 #ifndef WERMAZUL_H
 #define WERMAZUL_H
 
@@ -134,5 +136,20 @@ wermazul_layout_record wermazul_layout(void);
 #ifdef __cplusplus
 }
 #endif
+
+/* The version of this header, as wermazul_layout() tells the archive's: 0.2.0. */
+#ifndef WERMAZUL_VERSION
+#define WERMAZUL_VERSION 2000
+#endif
+
+/* Whether the archive that is linked is of this header's version, and its records are as large as those declared here. */
+static inline bool wermazul_matches(void)
+{
+    wermazul_layout_record there = wermazul_layout();
+    return there.version == WERMAZUL_VERSION && there.book == sizeof(wermazul_book_record) && there.ledger == sizeof(wermazul_ledger_record) &&
+           there.held == sizeof(wermazul_held) && there.told == sizeof(wermazul_told) && there.counts == sizeof(wermazul_counts) &&
+           there.counts_told == sizeof(wermazul_counts_told) && there.ledger_told == sizeof(wermazul_ledger_told) &&
+           there.turn_told == sizeof(wermazul_turn_told) && there.line_told == sizeof(wermazul_line_told);
+}
 
 #endif
