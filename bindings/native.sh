@@ -38,15 +38,16 @@ sources_of() {
   (cd "$ROOT/crates" && find ../crates.txt $(folders_of "$1") -name must-fail -prune -o -type f -print0 | sort -z | xargs -0 sha256sum | sha256sum)
 }
 
-# What was made is fresh where nothing is newer than the last look, or else where the sources are still the same. Without rt nothing can be made
-# again, and the toolchain is taken as it was.
+# What was made is fresh where nothing is newer than the last look, or else where the sources are still the same; then that was a look, which
+# is kept where the user may write. Without rt nothing can be made again, and the toolchain is taken as it was.
 fresh() {
   local kept=$NATIVE/$1
   [ -e "$kept/made" ] && [ -e "$kept/seen" ] || return 1
   [ -z "$KIT" ] || [ "$(head -n 1 "$kept/made")" = "$(identity)" ] || return 1
   [ -n "$(cd "$ROOT/crates" && find ../crates.txt $(folders_of "$1") -name must-fail -prune -o -newer "$kept/seen" -print -quit)" ] || return 0
-  touch "$kept/looked"
-  [ "$(tail -n 1 "$kept/made")" = "$(sources_of "$1" | tail -n 1)" ] && mv "$kept/looked" "$kept/seen"
+  touch "$kept/looked" 2>/dev/null || true
+  [ "$(tail -n 1 "$kept/made")" = "$(sources_of "$1" | tail -n 1)" ] || return 1
+  mv -f "$kept/looked" "$kept/seen" 2>/dev/null || true
 }
 
 # What `rt version` prints.
