@@ -48,7 +48,7 @@ fn machine() -> Result<String, String> {
 fn made() -> Result<PathBuf, String> {
     let root = folder("CARGO_MANIFEST_DIR").join("../..");
     let root = root.canonicalize().unwrap_or(root);
-    for source in ["crates", "crates.txt", "bindings/archive"] {
+    for source in ["crates", "crates.txt", "bindings/archive", "bindings/native.sh", "bindings/needs.sh"] {
         println!("cargo:rerun-if-changed={}", root.join(source).display());
     }
     let script = root.join("bindings/archive");
