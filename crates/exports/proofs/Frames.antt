@@ -14,7 +14,8 @@ use Rattle.lines.specs.declared.FrameAnswer.the-variants as F
 use Rattle.lines.proofs.FrameAnswer as FT
 use Rattle.lines.specs.declared.ReadFrame.{ReadFrame}
 use Rattle.lines.specs.Read.{replyOfFrame, readOf}
-use Rattle.exports.specs.Feeds.{kindOf, bareLine, deltaTold, lineBy, lineTold}
+use Rattle.names.specs.Kinds.{kindOf}
+use Rattle.exports.specs.Feeds.{bareLine, deltaTold, lineBy, lineTold}
 
 module _ (r : ReadFrame) (t : Told) (k : t ≡ tell kindOf (replyOfFrame (r .answer) (r .book))) where
   -- a delta

@@ -16,7 +16,7 @@ use Rattle.orderbook.specs.declared.OrderBook.{OrderBook}
 use Rattle.orderbook.specs.Book.{isBook, ofBook}
 use Rattle.orderbook.specs.Apply.{Change}
 use Rattle.position.specs.declared.PositionLedger.{PositionLedger}
-use Rattle.exports.specs.Names.{replyTo}
+use Rattle.names.specs.Names.{replyTo}
 use Rattle.exports.specs.Memory.{toldLeft}
 use Rattle.exports.specs.Books.{bookTold, changedTo}
 use Rattle.exports.specs.Ledgers as L

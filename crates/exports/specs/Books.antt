@@ -11,7 +11,7 @@ use Rattle.orderbook.specs.declared.OrderBook.{OrderBook}
 use Rattle.orderbook.specs.Book.{ofBook}
 use Rattle.orderbook.specs.Apply.{Change, applied, sideCleared}
 use Rattle.questions.specs.Asked.{Value, bookAsk}
-use Rattle.exports.specs.Names.{sideBy, deltaBy, questionBy, listingBy, replyTo}
+use Rattle.names.specs.Names.{sideBy, deltaBy, questionBy, listingBy, replyTo}
 
 -- a book, and an answer in numbers
 pub record BookTold : Type 0 where

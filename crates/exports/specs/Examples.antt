@@ -1,4 +1,4 @@
--- Book K of the paper, for Rust and C: answers as numbers, and numbers that name nothing.
+-- Book K, for Rust and C: answers as numbers, and numbers that name nothing.
 use mathlib.Core.Path.{_≡_, refl}
 use mathlib.Core.List.{[], _∷_}
 use lib.IntN.{pos}
@@ -23,7 +23,7 @@ use Rattle.receiver.specs.Turns.{taken}
 use Rattle.receiver_questions.specs.Gate.{shut, gate}
 use mathlib.Core.Option.{none}
 use Rattle.exports.specs.Books.{appliedBy, clearedBy, askedBy, listedBy}
-use Rattle.exports.specs.Feeds.{kindOf, lineTold, deltaLineBy}
+use Rattle.exports.specs.Feeds.{lineTold, deltaLineBy}
 use Rattle.exports.specs.Receivers.{heldAsk, heldNumbers, takenBy}
 
 -- question 13 is the sequence, question 0 the best level of a side

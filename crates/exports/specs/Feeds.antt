@@ -1,7 +1,6 @@
 -- The lines of the feed for Rust and C: what a line reads as, in numbers, and the line of a delta of numbers.
 use Prim.Native.Nat.{ℕ}
-use mathlib.Core.List.{List, [], _∷_}
-use lib.IntN.{ℤ, pos}
+use mathlib.Core.List.{List}
 use Rattle.types.specs.Replies.{Reply, done, refused}
 use Rattle.types.specs.Named.{sideNumber}
 use Rattle.told.specs.declared.Told.{Told}
@@ -12,13 +11,9 @@ use Rattle.orderbook.specs.declared.OrderBook.{OrderBook}
 use Rattle.frames.specs.Frames.{Frame, delta, snapshot}
 use Rattle.frames.specs.Sent.{deltaLine}
 use Rattle.lines.specs.Read.{Read}
+use Rattle.names.specs.Names.{deltaBy}
+use Rattle.names.specs.Kinds.{kindOf}
 use Rattle.exports.specs.declared.LineTold.{LineTold}
-use Rattle.exports.specs.Names.{deltaBy}
-
--- the kind of a frame: 1 for a delta, 2 for a snapshot
-abbrev pub kindOf : Frame → List ℤ
-kindOf (delta d) = pos 1 ∷ []
-kindOf (snapshot s) = pos 2 ∷ []
 
 -- a line without the numbers of a delta
 abbrev pub bareLine : Told → OrderBook → LineTold

@@ -1,4 +1,3 @@
-pub mod Names
 pub mod Memory
 pub mod Layouts
 pub mod Books

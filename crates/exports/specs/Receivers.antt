@@ -10,13 +10,12 @@ use Rattle.deltas.specs.declared.Counts.{Counts}
 use Rattle.listings.specs.declared.Listing.{Listing}
 use Rattle.orderbook.specs.Lent.{Row, lentBook, leftBook}
 use Rattle.questions.specs.Asked.{Value}
-use Rattle.receiver.specs.declared.State.{State}
-use Rattle.receiver.specs.declared.State.the-variants.{Waiting, Live}
 use Rattle.receiver.specs.declared.Receiver.{Receiver}
 use Rattle.receiver.specs.Turns.{Turn, taken}
 use Rattle.receiver_questions.specs.Gate.{receiverAsk, receiverNumbers}
+use Rattle.names.specs.Names.{questionBy, listingBy, replyTo}
+use Rattle.names.specs.Kinds.{stateIf, stateNumber}
 use Rattle.exports.specs.declared.Held.{Held}
-use Rattle.exports.specs.Names.{questionBy, listingBy, replyTo}
 
 -- a receiver that is lent as its rows, with its state's number and its counts, as it was lent
 abbrev pub lentHeld : Row → Row → Row → Row → ℕ → Counts → Held
@@ -29,15 +28,6 @@ leftHeld bp bq ap aq n c = record { state = n; book = leftBook bp bq ap aq c }
 -- a state is 0 or 1
 abbrev pub isState : Held → Bool
 isState h = leb (h .state) 1
-
--- live where the flag is set, else waiting
-abbrev pub stateIf : Bool → State
-stateIf live = cond live Live Waiting
-
--- the number of a state
-abbrev pub stateNumber : State → ℕ
-stateNumber Waiting = 0
-stateNumber Live = 1
 
 -- the receiver of a record
 abbrev pub receiverOf : Held → Receiver

@@ -2,17 +2,16 @@
 ghost use mathlib.Core.Path.{_≡_};
 ghost use lib.ListN.{length};
 ghost use Rattle.types.specs.Answers.{replyOfOutcome};
-ghost use Rattle.types.specs.Replies.{refuse, mapReply};
+ghost use Rattle.types.specs.Replies.{mapReply};
 ghost use Rattle.types.specs.Written.{fitted, written};
 ghost use Rattle.told.specs.Numbers.{tell, nothing, oneNumber};
-ghost use Rattle.orderbook.specs.Book.{ofBook, isBook, emptyBook};
+ghost use Rattle.orderbook.specs.Book.{isBook, emptyBook};
 ghost use Rattle.orderbook.specs.Apply.{cleared};
 ghost use Rattle.orderbook.specs.Lent.{lentBook, leftBook};
 ghost use Rattle.questions.specs.Asked.{valuesIn};
 ghost use Rattle.exports.specs.Books.{bookTold, appliedBy, clearedBy, askedBy, listedBy};
 ghost use Rattle.exports.specs.Memory.{toldLeft};
 use crate::CountsTold;
-use crate::names;
 use deltas::Counts;
 use deltas::RowsApplied;
 use frames::DeltaAnswer;
@@ -21,23 +20,6 @@ use orderbook::rows;
 use told::Told;
 use types::Refusal;
 use types::Side;
-
-// The refusal of numbers that name nothing, after 1 if the rows make no book.
-pub(crate) fn refused<'a>(
-    bp: &'a [u32; 128],
-    bq: &'a [u32; 128],
-    ap: &'a [u32; 128],
-    aq: &'a [u32; 128],
-    counts: Counts,
-    why: Refusal,
-) -> Told
-    ensures { λ r. ⌜ r ≡ tell nothing (ofBook (lentBook bp bq ap aq counts) (refuse why)) ⌝ }
-{
-    if rows::is_book(bp, bq, ap, aq, counts) {
-        return Told::of_refusal(why);
-    }
-    Told::of_refusal(Refusal::NotARecord)
-}
 
 // What a change left beside the rows, its outcome told.
 fn given(applied: RowsApplied) -> CountsTold
@@ -91,7 +73,7 @@ pub extern "C" fn wermazul_apply_delta(
         DeltaAnswer::Is(delta) => given(rows::apply_delta(bp, bq, ap, aq, counts, delta)),
         DeltaAnswer::Refused(why) => CountsTold {
             counts,
-            told: refused(bp, bq, ap, aq, counts, why),
+            told: names::refused(bp, bq, ap, aq, counts, why),
         },
     }
 }
@@ -124,7 +106,7 @@ pub extern "C" fn wermazul_remove_all(
     if side > 1 {
         return CountsTold {
             counts,
-            told: refused(bp, bq, ap, aq, counts, Refusal::OutOfLimits),
+            told: names::refused(bp, bq, ap, aq, counts, Refusal::OutOfLimits),
         };
     }
     given(rows::remove_all(bp, bq, ap, aq, counts, Side::of(side == 1)))
@@ -147,7 +129,7 @@ pub extern "C" fn wermazul_ask<'a>(
 {
     match names::question_of(question, side, small, large) {
         questions::numbered::Named::Is(q) => questions::ask_at(bp, bq, ap, aq, counts, q).told(),
-        questions::numbered::Named::Refused(why) => refused(bp, bq, ap, aq, counts, why),
+        questions::numbered::Named::Refused(why) => names::refused(bp, bq, ap, aq, counts, why),
     }
 }
 
@@ -177,7 +159,7 @@ pub extern "C" fn wermazul_places<'a>(
             l,
             room as usize,
         )),
-        listings::numbered::Named::Refused(why) => refused(bp, bq, ap, aq, counts, why),
+        listings::numbered::Named::Refused(why) => names::refused(bp, bq, ap, aq, counts, why),
     }
 }
 
@@ -207,6 +189,6 @@ pub extern "C" fn wermazul_list<'a>(
             l,
             out,
         )),
-        listings::numbered::Named::Refused(why) => refused(bp, bq, ap, aq, counts, why),
+        listings::numbered::Named::Refused(why) => names::refused(bp, bq, ap, aq, counts, why),
     }
 }

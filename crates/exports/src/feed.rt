@@ -5,30 +5,18 @@ ghost use Rattle.told.specs.Numbers.{tell};
 ghost use Rattle.orderbook.specs.Lent.{lentBook};
 ghost use Rattle.frames.specs.Decode.{decode};
 ghost use Rattle.frames.specs.Sent.{snapshotLine};
-ghost use Rattle.lines.specs.Read.{replyOfFrame, readAs};
+ghost use Rattle.lines.specs.Read.{readAs};
 ghost use Rattle.streams.specs.Streams.{lineEnd};
-ghost use Rattle.exports.specs.Feeds.{kindOf, bareLine, deltaTold, lineTold, deltaLineBy};
+ghost use Rattle.names.specs.Kinds.{kindOf};
+ghost use Rattle.exports.specs.Feeds.{bareLine, deltaTold, lineTold, deltaLineBy};
 ghost use Rattle.exports.specs.Memory.{toldLeft};
 use crate::LineTold;
-use crate::names;
 use deltas::BookDelta;
 use deltas::Counts;
 use frames::DeltaAnswer;
 use lines::FrameAnswer;
 use orderbook::OrderBook;
 use told::Told;
-use types::NumberAnswer;
-
-// A frame's kind, or the refusal.
-fn kind_told(answer: FrameAnswer, book: OrderBook) -> Told
-    ensures { λ r. ⌜ r ≡ tell kindOf (replyOfFrame answer book) ⌝ }
-{
-    match answer {
-        FrameAnswer::Delta(_) => Told::of_number(NumberAnswer::Is(1)),
-        FrameAnswer::Snapshot => Told::of_number(NumberAnswer::Is(2)),
-        FrameAnswer::Refused(why) => Told::of_refusal(why),
-    }
-}
 
 // What a line is: 0 and its kind, 1 for a delta and 2 for a snapshot, or 12.
 #[no_mangle]
@@ -38,7 +26,7 @@ pub extern "C" fn wermazul_line_kind(line: &[u8]) -> Told
     let read = lines::read_frame(line);
     let answer = read.answer;
     let book = read.book;
-    kind_told(answer, book)
+    names::kind_told(answer, book)
 }
 
 // A line that is no delta.
@@ -79,7 +67,7 @@ pub extern "C" fn wermazul_read_line(line: &[u8]) -> LineTold
     let read = lines::read_frame(line);
     let answer = read.answer;
     let book = read.book;
-    let told = kind_told(answer, book);
+    let told = names::kind_told(answer, book);
     match answer {
         FrameAnswer::Delta(delta) => delta_told(told, delta, book),
         _ => bare_line(told, book),

@@ -1,8 +1,7 @@
 // What Rust and C link: thin functions on numbers and lent memory, over the library. A book or a receiver is lent as its four rows (bid
 // prices, bid quantities, ask prices, ask quantities) with its counts beside them, and is asked and changed where it stands. An answer comes
-// back as the paper's number and values. Sides, actions, questions, listings and worths are named by their numbers; a number that names none
+// back as its number and values. Sides, actions, questions, listings and worths are named by their numbers; a number that names none
 // gives 2, after 1 for a record that is none.
-mod names; // names.rt: what the numbers of a call name
 pub mod layout; // layout.rt: the archive's version, and the sizes of the records that cross
 pub mod book; // book.rt: the book, its changes, its questions and its listings
 pub mod ledger; // ledger.rt: the ledger

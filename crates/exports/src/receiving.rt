@@ -7,32 +7,14 @@ ghost use Rattle.told.specs.Numbers.{tell, oneNumber};
 ghost use Rattle.questions.specs.Asked.{valuesIn};
 ghost use Rattle.receiver.specs.Turns.{start};
 ghost use Rattle.exports.specs.Memory.{toldLeft};
-ghost use Rattle.exports.specs.Receivers.{stateNumber, stateIf, heldOf, lentHeld, leftHeld, takenBy, heldAsk, heldNumbers};
+ghost use Rattle.exports.specs.Receivers.{heldOf, lentHeld, leftHeld, takenBy, heldAsk, heldNumbers};
 use crate::Held;
 use crate::TurnTold;
-use crate::book;
-use crate::names;
 use deltas::Counts;
 use receiver::Receiver;
-use receiver::State;
 use receiver::rows;
 use told::Told;
 use types::Refusal;
-
-fn state_of(live: bool) -> State
-    ensures { λ r. ⌜ r ≡ stateIf live ⌝ }
-{
-    if live { State::Live } else { State::Waiting }
-}
-
-fn state_number(state: State) -> u64
-    ensures { λ r. ⌜ r ≡ stateNumber state ⌝ }
-{
-    match state {
-        State::Waiting => 0,
-        State::Live => 1,
-    }
-}
 
 #[no_mangle]
 pub extern "C" fn wermazul_receiver() -> Held
@@ -42,7 +24,7 @@ pub extern "C" fn wermazul_receiver() -> Held
     let state = receiver.state;
     let book = receiver.book;
     Held {
-        state: state_number(state),
+        state: names::state_number(state),
         book,
     }
 }
@@ -67,12 +49,12 @@ pub extern "C" fn wermazul_take_line(
             told: Told::of_refusal(Refusal::NotARecord),
         };
     }
-    let turned = rows::take_line(bp, bq, ap, aq, state_of(state == 1), counts, line);
+    let turned = rows::take_line(bp, bq, ap, aq, names::state_of(state == 1), counts, line);
     let after = turned.state;
     let counts = turned.counts;
     let outcome = turned.outcome;
     TurnTold {
-        state: state_number(after),
+        state: names::state_number(after),
         counts,
         told: Told::of_outcome(outcome),
     }
@@ -99,10 +81,10 @@ pub extern "C" fn wermazul_receiver_ask<'a>(
     }
     match names::question_of(question, side, small, large) {
         questions::numbered::Named::Is(q) => {
-            let live = state_of(state == 1);
+            let live = names::state_of(state == 1);
             receiver_questions::ask_at(bp, bq, ap, aq, live, counts, q).told()
         }
-        questions::numbered::Named::Refused(why) => book::refused(bp, bq, ap, aq, counts, why),
+        questions::numbered::Named::Refused(why) => names::refused(bp, bq, ap, aq, counts, why),
     }
 }
 
@@ -128,11 +110,11 @@ pub extern "C" fn wermazul_receiver_places<'a>(
     }
     match names::listing_of(listing, side, from, to) {
         listings::numbered::Named::Is(l) => {
-            let live = state_of(state == 1);
+            let live = names::state_of(state == 1);
             let room = room as usize;
             Told::of_number(receiver_questions::places_at(bp, bq, ap, aq, live, counts, l, room))
         }
-        listings::numbered::Named::Refused(why) => book::refused(bp, bq, ap, aq, counts, why),
+        listings::numbered::Named::Refused(why) => names::refused(bp, bq, ap, aq, counts, why),
     }
 }
 
@@ -158,9 +140,9 @@ pub extern "C" fn wermazul_receiver_list<'a>(
     }
     match names::listing_of(listing, side, from, to) {
         listings::numbered::Named::Is(l) => {
-            let live = state_of(state == 1);
+            let live = names::state_of(state == 1);
             Told::of_number(receiver_questions::write_at(bp, bq, ap, aq, live, counts, l, out))
         }
-        listings::numbered::Named::Refused(why) => book::refused(bp, bq, ap, aq, counts, why),
+        listings::numbered::Named::Refused(why) => names::refused(bp, bq, ap, aq, counts, why),
     }
 }

@@ -3,7 +3,7 @@ use mathlib.Core.Path.{ap, _∙_}
 use borrow.Author.Needs.{needs}
 use Rattle.told.specs.Numbers.{tell}
 use Rattle.lines.specs.Read.{Read}
-use Rattle.exports.specs.Feeds.{kindOf}
+use Rattle.names.specs.Kinds.{kindOf}
 use Rattle.exports.proofs.feed.wermazul_line_kind.Statement.{statement}
 use Rattle.exports.proofs.feed.wermazul_line_kind.Tie as tie
 

@@ -1,8 +1,7 @@
--- `feed::kind_told` meets its contract: each arm tells its kind.
-use mathlib.Core.Path.{_∙_}
+-- `names::kind_told` meets its contract: each arm tells its kind.
 use borrow.Author.Needs.{needs}
-use Rattle.exports.proofs.feed.kind_told.Statement.{statement}
-use Rattle.exports.proofs.feed.kind_told.Tie as tie
+use Rattle.names.proofs.kind_told.Statement.{statement}
+use Rattle.names.proofs.kind_told.Tie as tie
 
 pub kind-told-spec : {M : Type 1} → statement M
 kind-told-spec =

@@ -1,9 +1,8 @@
 -- `names::delta_of` meets its contract: both numbers are tested first.
-use mathlib.Core.Path.{sym, refl}
 use borrow.Author.Tests.{lt-leb, le-leb}
 use borrow.Author.Needs.{needs}
-use Rattle.exports.proofs.names.delta_of.Statement.{statement}
-use Rattle.exports.proofs.names.delta_of.Tie as tie
+use Rattle.names.proofs.delta_of.Statement.{statement}
+use Rattle.names.proofs.delta_of.Tie as tie
 
 pub delta-of-spec : {M : Type 1} → statement M
 delta-of-spec =

@@ -1,8 +1,8 @@
 -- `names::listing_of` meets its contract: the side is tested first.
 use borrow.Author.Tests.{lt-leb, le-leb}
 use borrow.Author.Needs.{needs}
-use Rattle.exports.proofs.names.listing_of.Statement.{statement}
-use Rattle.exports.proofs.names.listing_of.Tie as tie
+use Rattle.names.proofs.listing_of.Statement.{statement}
+use Rattle.names.proofs.listing_of.Tie as tie
 
 pub listing-of-spec : {M : Type 1} → statement M
 listing-of-spec =

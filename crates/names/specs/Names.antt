@@ -1,6 +1,6 @@
 -- What the numbers of a call name: a side is 0 or 1, and numbers that name nothing are 2.
 use Prim.Native.Nat.{ℕ}
-use mathlib.Core.Bool.{Bool, _&&_}
+use mathlib.Core.Bool.{_&&_}
 use lib.Dec.{leb}
 use Rattle.types.specs.Replies.{Reply, done, refused, ifWithin}
 use Rattle.types.specs.Named.{sideNamed}

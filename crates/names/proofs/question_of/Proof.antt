@@ -1,8 +1,8 @@
 -- `names::question_of` meets its contract: the side is tested first.
 use borrow.Author.Tests.{lt-leb, le-leb}
 use borrow.Author.Needs.{needs}
-use Rattle.exports.proofs.names.question_of.Statement.{statement}
-use Rattle.exports.proofs.names.question_of.Tie as tie
+use Rattle.names.proofs.question_of.Statement.{statement}
+use Rattle.names.proofs.question_of.Tie as tie
 
 pub question-of-spec : {M : Type 1} → statement M
 question-of-spec =

@@ -1,8 +1,8 @@
--- `book::refused` meets its contract: 1 comes first.
+-- `names::refused` meets its contract: 1 comes first.
 use mathlib.Core.Path.{sym, _∙_}
 use borrow.Author.Needs.{needs}
-use Rattle.exports.proofs.book.refused.Statement.{statement}
-use Rattle.exports.proofs.book.refused.Tie as tie
+use Rattle.names.proofs.refused.Statement.{statement}
+use Rattle.names.proofs.refused.Tie as tie
 
 pub refused-spec : {M : Type 1} → statement M
 refused-spec =
