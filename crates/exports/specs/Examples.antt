@@ -22,7 +22,7 @@ use Rattle.lines.specs.Read.{readAs}
 use Rattle.receiver.specs.Turns.{taken}
 use Rattle.receiver_questions.specs.Gate.{shut, gate}
 use mathlib.Core.Option.{none}
-use Rattle.exports.specs.Books.{appliedBy, clearedBy, askedBy, listedBy}
+use Rattle.numbered.specs.Books.{appliedBy, clearedBy, askedBy, listedBy}
 use Rattle.exports.specs.Feeds.{lineTold, deltaLineBy}
 use Rattle.exports.specs.Receivers.{heldAsk, heldNumbers, takenBy}
 

@@ -1,37 +1,20 @@
 // The book for Rust and C: its changes, its questions and its listings.
 ghost use mathlib.Core.Path.{_≡_};
 ghost use lib.ListN.{length};
-ghost use Rattle.types.specs.Answers.{replyOfOutcome};
 ghost use Rattle.types.specs.Replies.{mapReply};
 ghost use Rattle.types.specs.Written.{fitted, written};
-ghost use Rattle.told.specs.Numbers.{tell, nothing, oneNumber};
+ghost use Rattle.told.specs.Numbers.{tell, oneNumber};
 ghost use Rattle.orderbook.specs.Book.{isBook, emptyBook};
 ghost use Rattle.orderbook.specs.Apply.{cleared};
 ghost use Rattle.orderbook.specs.Lent.{lentBook, leftBook};
 ghost use Rattle.questions.specs.Asked.{valuesIn};
-ghost use Rattle.exports.specs.Books.{bookTold, appliedBy, clearedBy, askedBy, listedBy};
-ghost use Rattle.exports.specs.Memory.{toldLeft};
-use crate::CountsTold;
+ghost use Rattle.numbered.specs.Books.{bookTold, appliedBy, clearedBy, askedBy, listedBy};
+ghost use Rattle.numbered.specs.Memory.{toldLeft};
 use deltas::Counts;
-use deltas::RowsApplied;
-use frames::DeltaAnswer;
+use numbered::CountsTold;
 use orderbook::OrderBook;
 use orderbook::rows;
 use told::Told;
-use types::Refusal;
-use types::Side;
-
-// What a change left beside the rows, its outcome told.
-fn given(applied: RowsApplied) -> CountsTold
-    ensures { λ r. ⌜ r ≡ record { counts = applied .counts; told = tell nothing (replyOfOutcome (applied .outcome)) } ⌝ }
-{
-    let counts = applied.counts;
-    let outcome = applied.outcome;
-    CountsTold {
-        counts,
-        told: Told::of_outcome(outcome),
-    }
-}
 
 #[no_mangle]
 pub extern "C" fn wermazul_book() -> OrderBook
@@ -69,13 +52,18 @@ pub extern "C" fn wermazul_apply_delta(
 ) -> CountsTold
     ensures { λ r. ⌜ record { book = leftBook bp bq ap aq (r .counts); told = r .told } ≡ bookTold (appliedBy (lentBook bp bq ap aq counts) side action price quantity sequence) ⌝ }
 {
-    match names::delta_of(side, action, price, quantity, sequence) {
-        DeltaAnswer::Is(delta) => given(rows::apply_delta(bp, bq, ap, aq, counts, delta)),
-        DeltaAnswer::Refused(why) => CountsTold {
-            counts,
-            told: names::refused(bp, bq, ap, aq, counts, why),
-        },
-    }
+    numbered::apply_delta(
+        bp,
+        bq,
+        ap,
+        aq,
+        counts,
+        side,
+        action,
+        price,
+        quantity,
+        sequence,
+    )
 }
 
 #[no_mangle]
@@ -88,7 +76,7 @@ pub extern "C" fn wermazul_clear(
 ) -> CountsTold
     ensures { λ r. ⌜ record { book = leftBook bp bq ap aq (r .counts); told = r .told } ≡ bookTold (cleared (lentBook bp bq ap aq counts)) ⌝ }
 {
-    given(rows::clear(bp, bq, ap, aq, counts))
+    numbered::clear(bp, bq, ap, aq, counts)
 }
 
 // Empties the side of this number; one that names none leaves the rows.
@@ -103,13 +91,7 @@ pub extern "C" fn wermazul_remove_all(
 ) -> CountsTold
     ensures { λ r. ⌜ record { book = leftBook bp bq ap aq (r .counts); told = r .told } ≡ bookTold (clearedBy (lentBook bp bq ap aq counts) side) ⌝ }
 {
-    if side > 1 {
-        return CountsTold {
-            counts,
-            told: names::refused(bp, bq, ap, aq, counts, Refusal::OutOfLimits),
-        };
-    }
-    given(rows::remove_all(bp, bq, ap, aq, counts, Side::of(side == 1)))
+    numbered::remove_all(bp, bq, ap, aq, counts, side)
 }
 
 // The book's answer to a question.
@@ -127,10 +109,7 @@ pub extern "C" fn wermazul_ask<'a>(
 ) -> Told
     ensures { λ r. ⌜ r ≡ tell valuesIn (askedBy (lentBook bp bq ap aq counts) question side small large) ⌝ }
 {
-    match names::question_of(question, side, small, large) {
-        questions::numbered::Named::Is(q) => questions::ask_at(bp, bq, ap, aq, counts, q).told(),
-        questions::numbered::Named::Refused(why) => names::refused(bp, bq, ap, aq, counts, why),
-    }
+    numbered::ask(bp, bq, ap, aq, counts, question, side, small, large)
 }
 
 // The places that a listing fills in memory of `room` places.
@@ -149,18 +128,7 @@ pub extern "C" fn wermazul_places<'a>(
 ) -> Told
     ensures { λ r. ⌜ r ≡ tell oneNumber (mapReply length (fitted room (listedBy (lentBook bp bq ap aq counts) listing side from to))) ⌝ }
 {
-    match names::listing_of(listing, side, from, to) {
-        listings::numbered::Named::Is(l) => Told::of_number(listings::places_at(
-            bp,
-            bq,
-            ap,
-            aq,
-            counts,
-            l,
-            room as usize,
-        )),
-        listings::numbered::Named::Refused(why) => names::refused(bp, bq, ap, aq, counts, why),
-    }
+    numbered::places(bp, bq, ap, aq, counts, listing, side, from, to, room)
 }
 
 // Writes a listing to the front of lent memory: price, quantity, price, quantity.
@@ -179,16 +147,5 @@ pub extern "C" fn wermazul_list<'a>(
 ) -> Told
     ensures { λ r. ⌜ record { answer = r; memory = now (out .exit) } ≡ toldLeft (written (listedBy (lentBook bp bq ap aq counts) listing side from to) (now (out .entry))) ⌝ }
 {
-    match names::listing_of(listing, side, from, to) {
-        listings::numbered::Named::Is(l) => Told::of_number(listings::write_at(
-            bp,
-            bq,
-            ap,
-            aq,
-            counts,
-            l,
-            out,
-        )),
-        listings::numbered::Named::Refused(why) => names::refused(bp, bq, ap, aq, counts, why),
-    }
+    numbered::list(bp, bq, ap, aq, counts, listing, side, from, to, out)
 }

@@ -9,7 +9,7 @@ ghost use Rattle.lines.specs.Read.{readAs};
 ghost use Rattle.streams.specs.Streams.{lineEnd};
 ghost use Rattle.names.specs.Kinds.{kindOf};
 ghost use Rattle.exports.specs.Feeds.{bareLine, deltaTold, lineTold, deltaLineBy};
-ghost use Rattle.exports.specs.Memory.{toldLeft};
+ghost use Rattle.numbered.specs.Memory.{toldLeft};
 use crate::LineTold;
 use deltas::BookDelta;
 use deltas::Counts;

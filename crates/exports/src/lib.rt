@@ -13,13 +13,6 @@ use orderbook::OrderBook;
 use position::PositionLedger;
 use told::Told;
 
-// The counts beside a book's rows after a call, and the call's answer.
-#[repr(C)]
-pub struct CountsTold {
-    pub counts: Counts,
-    pub told: Told,
-}
-
 // A ledger after a call, and the call's answer.
 #[repr(C)]
 pub struct LedgerTold {

@@ -6,7 +6,7 @@ ghost use Rattle.types.specs.Written.{fitted, written};
 ghost use Rattle.told.specs.Numbers.{tell, oneNumber};
 ghost use Rattle.questions.specs.Asked.{valuesIn};
 ghost use Rattle.receiver.specs.Turns.{start};
-ghost use Rattle.exports.specs.Memory.{toldLeft};
+ghost use Rattle.numbered.specs.Memory.{toldLeft};
 ghost use Rattle.exports.specs.Receivers.{heldOf, lentHeld, leftHeld, takenBy, heldAsk, heldNumbers};
 use crate::Held;
 use crate::TurnTold;

@@ -5,9 +5,9 @@ use mathlib.Core.List.{List}
 use denote.Ref.{now}
 use Rattle.types.specs.Written.{Left}
 use Rattle.told.specs.declared.Told.{Told}
-use Rattle.exports.specs.declared.CountsTold.{CountsTold}
+use Rattle.numbered.specs.declared.CountsTold.{CountsTold}
 use Rattle.exports.specs.declared.TurnTold.{TurnTold}
-use Rattle.exports.specs.Books.{BookTold}
+use Rattle.numbered.specs.Books.{BookTold}
 use Rattle.exports.specs.Receivers.{HeldTold}
 use Rattle.exports.proofs.layout as Y
 use Rattle.exports.proofs.book as B

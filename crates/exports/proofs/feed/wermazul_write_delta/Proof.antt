@@ -6,9 +6,9 @@ use Rattle.types.specs.Replies.{Reply}
 use Rattle.types.specs.Written.{written}
 use borrow.Author.Needs.{needs}
 use Rattle.deltas.specs.declared.BookDelta.{BookDelta}
-use Rattle.exports.specs.Memory.{toldLeft}
+use Rattle.numbered.specs.Memory.{toldLeft}
 use Rattle.exports.specs.Feeds.{lineOf, deltaLineBy}
-use Rattle.exports.proofs.Named.{left-told}
+use Rattle.numbered.proofs.Named.{left-told}
 use Rattle.exports.proofs.feed.wermazul_write_delta.Statement.{statement}
 use Rattle.exports.proofs.feed.wermazul_write_delta.Tie as tie
 

@@ -1,6 +1,6 @@
 -- `feed::wermazul_write_snapshot` meets its contract: what the writer left is told.
 use borrow.Author.Needs.{needs}
-use Rattle.exports.proofs.Named.{left-told}
+use Rattle.numbered.proofs.Named.{left-told}
 use Rattle.exports.proofs.feed.wermazul_write_snapshot.Statement.{statement}
 use Rattle.exports.proofs.feed.wermazul_write_snapshot.Tie as tie
 

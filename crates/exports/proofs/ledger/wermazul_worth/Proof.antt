@@ -2,7 +2,7 @@
 use native.Mathlib.Omega.{arith}
 use borrow.Author.Needs.{needs}
 use Rattle.exports.specs.Ledgers.{worthBy}
-use Rattle.exports.proofs.Named.{worth-unnamed}
+use Rattle.exports.proofs.Worths.{worth-unnamed}
 use Rattle.exports.proofs.ledger.wermazul_worth.Statement.{statement}
 use Rattle.exports.proofs.ledger.wermazul_worth.Tie as tie
 

@@ -5,7 +5,7 @@ use borrow.Author.Needs.{needs}
 use Rattle.told.specs.Numbers.{tell}
 use Rattle.questions.specs.Asked.{valuesIn}
 use Rattle.exports.specs.Receivers.{heldAsk}
-use Rattle.exports.proofs.Named.{answered, unanswered}
+use Rattle.numbered.proofs.Named.{answered, unanswered}
 use Rattle.exports.proofs.receiving.wermazul_receiver_ask.Statement.{statement}
 use Rattle.exports.proofs.receiving.wermazul_receiver_ask.Tie as tie
 

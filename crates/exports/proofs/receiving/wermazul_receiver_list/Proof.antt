@@ -6,9 +6,9 @@ use Rattle.types.specs.Replies.{Reply}
 use Rattle.types.specs.Written.{written}
 use borrow.Author.Tests.{lt-leb, le-leb}
 use borrow.Author.Needs.{needs}
-use Rattle.exports.specs.Memory.{toldLeft}
+use Rattle.numbered.specs.Memory.{toldLeft}
 use Rattle.exports.specs.Receivers.{heldNumbers}
-use Rattle.exports.proofs.Named.{answered, left-told, unwritten}
+use Rattle.numbered.proofs.Named.{answered, left-told, unwritten}
 use Rattle.exports.proofs.receiving.wermazul_receiver_list.Statement.{statement}
 use Rattle.exports.proofs.receiving.wermazul_receiver_list.Tie as tie
 

@@ -9,7 +9,7 @@ use Rattle.told.specs.Numbers.{tell, oneNumber}
 use borrow.Author.Tests.{lt-leb, le-leb}
 use borrow.Author.Needs.{needs}
 use Rattle.exports.specs.Receivers.{heldNumbers}
-use Rattle.exports.proofs.Named.{answered, unplaced}
+use Rattle.numbered.proofs.Named.{answered, unplaced}
 use Rattle.exports.proofs.receiving.wermazul_receiver_places.Statement.{statement}
 use Rattle.exports.proofs.receiving.wermazul_receiver_places.Tie as tie
 

@@ -1,14 +1,14 @@
--- `book::wermazul_apply_delta` meets its contract: the rows take the delta that the numbers name.
+-- `numbered::apply_delta` meets its contract: the rows take the delta that the numbers name.
 use mathlib.Core.Path.{ap, _∙_}
 use borrow.Author.Needs.{needs}
-use Rattle.exports.specs.Books.{bookTold, appliedBy}
-use Rattle.exports.proofs.Named.{changed, unchanged}
-use Rattle.exports.proofs.book.wermazul_apply_delta.Statement.{statement}
-use Rattle.exports.proofs.book.wermazul_apply_delta.Tie as tie
+use Rattle.numbered.specs.Books.{bookTold, appliedBy}
+use Rattle.numbered.proofs.Named.{changed, unchanged}
+use Rattle.numbered.proofs.apply_delta.Statement.{statement}
+use Rattle.numbered.proofs.apply_delta.Tie as tie
 
-pub wermazul-apply-delta-spec : {M : Type 1} → statement M
+pub apply-delta-spec : {M : Type 1} → statement M
 unfolding appliedBy
-wermazul-apply-delta-spec =
+apply-delta-spec =
     tie.close
     (tie.spec
     (λ c κs. search needs)

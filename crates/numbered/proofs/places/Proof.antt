@@ -1,4 +1,4 @@
--- `book::wermazul_places` meets its contract: the book answers for the listing that the numbers name.
+-- `numbered::places` meets its contract: the book answers for the listing that the numbers name.
 use Prim.Native.Nat.{ℕ}
 use mathlib.Core.Path.{ap, _∙_}
 use mathlib.Core.List.{List}
@@ -7,14 +7,14 @@ use Rattle.types.specs.Replies.{Reply, mapReply}
 use Rattle.types.specs.Written.{fitted}
 use Rattle.told.specs.Numbers.{tell, oneNumber}
 use borrow.Author.Needs.{needs}
-use Rattle.exports.specs.Books.{listedBy}
-use Rattle.exports.proofs.Named.{answered, unplaced}
-use Rattle.exports.proofs.book.wermazul_places.Statement.{statement}
-use Rattle.exports.proofs.book.wermazul_places.Tie as tie
+use Rattle.numbered.specs.Books.{listedBy}
+use Rattle.numbered.proofs.Named.{answered, unplaced}
+use Rattle.numbered.proofs.places.Statement.{statement}
+use Rattle.numbered.proofs.places.Tie as tie
 
-pub wermazul-places-spec : {M : Type 1} → statement M
+pub places-spec : {M : Type 1} → statement M
 unfolding listedBy
-wermazul-places-spec =
+places-spec =
     tie.close
     (tie.spec
     (λ c κs. search needs)

@@ -1,9 +1,9 @@
 -- What a call makes of numbers that name something, and of those that name nothing.
-use Prim.Native.Nat.{ℕ, _≤_}
+use Prim.Native.Nat.{ℕ}
 use mathlib.Core.Path.{_≡_, refl, sym, ap, _∙_}
 use mathlib.Core.List.{List, []}
 use lib.IntN.{ℤ}
-use lib.ListN.{length, List·getD-eq-default}
+use lib.ListN.{length}
 use Rattle.types.specs.Replies.{Reply, done, refused, refuse, mapReply}
 use Rattle.types.specs.Answers.{replyOfNumber}
 use Rattle.types.specs.Written.{Left, fitted, written}
@@ -15,11 +15,9 @@ use Rattle.told.specs.Numbers.{tell, nothing, oneNumber}
 use Rattle.orderbook.specs.declared.OrderBook.{OrderBook}
 use Rattle.orderbook.specs.Book.{isBook, ofBook}
 use Rattle.orderbook.specs.Apply.{Change}
-use Rattle.position.specs.declared.PositionLedger.{PositionLedger}
 use Rattle.names.specs.Names.{replyTo}
-use Rattle.exports.specs.Memory.{toldLeft}
-use Rattle.exports.specs.Books.{bookTold, changedTo}
-use Rattle.exports.specs.Ledgers as L
+use Rattle.numbered.specs.Memory.{toldLeft}
+use Rattle.numbered.specs.Books.{bookTold, changedTo}
 
 -- a refusal is told alike, whatever the answer would have carried
 told-alike : {A : Type 0} (f : A → List ℤ) (b : OrderBook) (n : ℕ) (vs : List ℤ) → tell nothing (ofBook b (refused n vs)) ≡ tell f (ofBook b (refused n vs))
@@ -65,8 +63,3 @@ module _ {A : Type 0} (b : OrderBook) (f : A → Change) (x : Reply A) where
   -- none
   pub unchanged : (why : Refusal) → refuse why ≡ x → record { book = b; told = tell nothing (ofBook b (refuse why)) } ≡ bookTold (changedTo b f x)
   unchanged why e = ap (λ (y : Reply A). bookTold (changedTo b f y)) e
-
--- worths end at 3
-pub worth-unnamed : (l : PositionLedger) (n : ℕ) (prices : List ℕ) → 4 ≤ n → L.worthBy l n prices ≡ tell nothing (L.unnamed l)
-unfolding L.worthBy
-worth-unnamed l n prices h = List·getD-eq-default (L.worths l prices) (tell nothing (L.unnamed l)) {n = n} h

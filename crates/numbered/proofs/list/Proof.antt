@@ -1,19 +1,19 @@
--- `book::wermazul_list` meets its contract: the book writes the listing that the numbers name.
+-- `numbered::list` meets its contract: the book writes the listing that the numbers name.
 use Prim.Native.Nat.{ℕ}
 use mathlib.Core.Path.{ap, _∙_}
 use mathlib.Core.List.{List}
 use Rattle.types.specs.Replies.{Reply}
 use Rattle.types.specs.Written.{written}
 use borrow.Author.Needs.{needs}
-use Rattle.exports.specs.Memory.{toldLeft}
-use Rattle.exports.specs.Books.{listedBy}
-use Rattle.exports.proofs.Named.{answered, left-told, unwritten}
-use Rattle.exports.proofs.book.wermazul_list.Statement.{statement}
-use Rattle.exports.proofs.book.wermazul_list.Tie as tie
+use Rattle.numbered.specs.Memory.{toldLeft}
+use Rattle.numbered.specs.Books.{listedBy}
+use Rattle.numbered.proofs.Named.{answered, left-told, unwritten}
+use Rattle.numbered.proofs.list.Statement.{statement}
+use Rattle.numbered.proofs.list.Tie as tie
 
-pub wermazul-list-spec : {M : Type 1} → statement M
+pub list-spec : {M : Type 1} → statement M
 unfolding listedBy
-wermazul-list-spec =
+list-spec =
     tie.close
     (tie.spec
     (λ c κs. search needs)

@@ -1,16 +1,16 @@
--- `book::wermazul_ask` meets its contract: the book answers the question that the numbers name.
+-- `numbered::ask` meets its contract: the book answers the question that the numbers name.
 use mathlib.Core.Path.{ap, _∙_}
 use borrow.Author.Needs.{needs}
 use Rattle.told.specs.Numbers.{tell}
 use Rattle.questions.specs.Asked.{valuesIn}
-use Rattle.exports.specs.Books.{askedBy}
-use Rattle.exports.proofs.Named.{answered, unanswered}
-use Rattle.exports.proofs.book.wermazul_ask.Statement.{statement}
-use Rattle.exports.proofs.book.wermazul_ask.Tie as tie
+use Rattle.numbered.specs.Books.{askedBy}
+use Rattle.numbered.proofs.Named.{answered, unanswered}
+use Rattle.numbered.proofs.ask.Statement.{statement}
+use Rattle.numbered.proofs.ask.Tie as tie
 
-pub wermazul-ask-spec : {M : Type 1} → statement M
+pub ask-spec : {M : Type 1} → statement M
 unfolding askedBy
-wermazul-ask-spec =
+ask-spec =
     tie.close
     (tie.spec
     (λ c κs. search needs)

@@ -1,14 +1,14 @@
--- `book::wermazul_remove_all` meets its contract: the side is emptied if its number names one.
+-- `numbered::remove_all` meets its contract: the side is emptied if its number names one.
 use mathlib.Core.Path.{ap, _∙_}
 use borrow.Author.Tests.{lt-leb, le-leb}
 use borrow.Author.Needs.{needs}
-use Rattle.exports.specs.Books.{bookTold, clearedBy}
-use Rattle.exports.proofs.book.wermazul_remove_all.Statement.{statement}
-use Rattle.exports.proofs.book.wermazul_remove_all.Tie as tie
+use Rattle.numbered.specs.Books.{bookTold, clearedBy}
+use Rattle.numbered.proofs.remove_all.Statement.{statement}
+use Rattle.numbered.proofs.remove_all.Tie as tie
 
-pub wermazul-remove-all-spec : {M : Type 1} → statement M
+pub remove-all-spec : {M : Type 1} → statement M
 unfolding clearedBy
-wermazul-remove-all-spec =
+remove-all-spec =
     tie.close
     (tie.spec
     (λ c κs. search needs)

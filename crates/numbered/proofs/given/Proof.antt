@@ -1,0 +1,11 @@
+-- `numbered::given` meets its contract: the outcome is told beside the counts.
+use borrow.Author.Needs.{needs}
+use Rattle.numbered.proofs.given.Statement.{statement}
+use Rattle.numbered.proofs.given.Tie as tie
+
+pub given-spec : {M : Type 1} → statement M
+given-spec =
+    tie.close
+    (tie.spec
+    (λ c κs. search needs)
+    (λ c. rw (c .of-outcome .ensures)))
