@@ -1,6 +1,6 @@
 #!/usr/bin/env bash
 # Times the test whether a record is a book, which comes before every answer, beside the same test in plain Rust, in one process: about 90
-# levels a side, the best of 300 short rounds as a range over the runs. Compares the answers on good and on spoilt records first.
+# levels a side, the best of 1,000 short rounds as a range over the runs. Compares the answers on good and on spoilt records first.
 #   bash bench/record.sh
 #   RUNS=1 bash bench/record.sh       another number of runs than 5; each takes about a second
 # Needs rustc 1.66 or newer, and the Rattle toolchain or an archive that WERMAZUL_ARCHIVE names.
@@ -28,16 +28,22 @@ for run in $(seq "${RUNS:-5}"); do
   "$work/record" time >"$work/run"
   paste -sd' ' "$work/run"
 done >"$work/runs"
-# Each line: proved NS tuned NS written NS.
+# Each line has a name and its nanoseconds, the proved test's first.
 awk '
-  function put(name, from, to, digits) { printf "| %s | %.*f to %.*f |", name, digits, from, digits, to }
   {
-    for (i = 1; i <= 3; i++) { t = $(2 * i); r = $2 / t; name[i] = $(2 * i - 1)
-      if (NR == 1 || t < low[i]) low[i] = t; if (NR == 1 || t > high[i]) high[i] = t
-      if (NR == 1 || r < least[i]) least[i] = r; if (NR == 1 || r > most[i]) most[i] = r }
+    for (i = 1; i < NF; i += 2) {
+      t = $(i + 1); r = $2 / t; name[i] = $i; names = NF
+      if (NR == 1 || t < low[i]) low[i] = t
+      if (NR == 1 || t > high[i]) high[i] = t
+      if (NR == 1 || r < least[i]) least[i] = r
+      if (NR == 1 || r > most[i]) most[i] = r
+    }
   }
   END {
-    print "| the test | ns a call | proved over this one |"; print "|---|---|---|"
-    said["proved"] = "proved, by the archive"; said["tuned"] = "plain Rust, the same loops"; said["written"] = "plain Rust, by iterators that stop"
-    for (i = 1; i <= 3; i++) { put(said[name[i]], low[i], high[i], 1); printf " %.2f to %.2f |\n", least[i], most[i] }
+    said["proved"] = "proved: the archive, rows and counts lent by a call of C"
+    said["by_rows"] = "plain Rust, the same loops, the same call of C"
+    said["tuned"] = "plain Rust, the same loops, a record by reference"
+    said["written"] = "plain Rust, iterators that stop at a fault, a record by reference"
+    print "| the test | ns a call | proved over this one |\n|---|---|---|"
+    for (i = 1; i < names; i += 2) printf "| %s | %.1f to %.1f | %.2f to %.2f |\n", said[name[i]], low[i], high[i], least[i], most[i]
   }' "$work/runs"

@@ -6,6 +6,7 @@ pub const MAX_QUANTITY: u32 = 1_000_000_000;
 
 pub type Row = [u32; LEVELS];
 
+#[repr(C)]
 #[derive(Clone)]
 pub struct Side {
     pub prices: Row,
@@ -13,10 +14,21 @@ pub struct Side {
     pub count: usize,
 }
 
+/// Laid out as the library's record is.
+#[repr(C)]
 #[derive(Clone)]
 pub struct Book {
     pub bids: Side,
     pub asks: Side,
+    pub sequence: u64,
+}
+
+/// What the archive takes beside the rows.
+#[repr(C)]
+pub struct Counts {
+    pub bids: usize,
+    pub asks: usize,
+    pub sequence: u64,
 }
 
 /// The next number of a sequence that looks random.
@@ -45,7 +57,11 @@ impl Side {
 impl Book {
     pub fn of(bids: usize, asks: usize, number: u32) -> Book {
         let mut seed = 2_463_534_242 + number;
-        Book { bids: Side::of(bids, 50_000, false, &mut seed), asks: Side::of(asks, 50_001, true, &mut seed) }
+        Book { bids: Side::of(bids, 50_000, false, &mut seed), asks: Side::of(asks, 50_001, true, &mut seed), sequence: 0 }
+    }
+
+    pub fn counts(&self) -> Counts {
+        Counts { bids: self.bids.count, asks: self.asks.count, sequence: self.sequence }
     }
 }
 

@@ -1,5 +1,5 @@
 //! The test in the fastest form found in plain Rust: the loops of the proved one, where the compiler may use all that it knows.
-use crate::books::{Book, Row, Side, LEVELS, MAX_PRICE, MAX_QUANTITY};
+use crate::books::{Book, Counts, Row, LEVELS, MAX_PRICE, MAX_QUANTITY};
 
 fn is_price(price: u32) -> bool {
     (1..=MAX_PRICE).contains(&price)
@@ -19,16 +19,29 @@ fn quantities_fit(quantities: &Row) -> bool {
     bits <= MAX_QUANTITY || quantities.iter().all(|quantity| *quantity <= MAX_QUANTITY)
 }
 
-fn fits(side: &Side, ahead: impl Fn(i32, i32) -> bool) -> bool {
-    let Side { prices, quantities, count } = side;
-    if *count > LEVELS {
+fn fits(prices: &Row, quantities: &Row, count: usize, ahead: impl Fn(i32, i32) -> bool) -> bool {
+    if count > LEVELS {
         return false;
     }
-    let unused = prices[*count..].iter().zip(&quantities[*count..]).fold(0, |bits, (price, quantity)| bits | price | quantity);
-    prices_fit(&prices[..*count], ahead) && unused == 0 && quantities_fit(quantities)
+    let unused = prices[count..].iter().zip(&quantities[count..]).fold(0, |bits, (price, quantity)| bits | price | quantity);
+    prices_fit(&prices[..count], ahead) && unused == 0 && quantities_fit(quantities)
 }
 
+/// Of a record by reference. A call, as of a library's function.
+#[inline(never)]
 pub fn is_book(book: &Book) -> bool {
-    let Book { bids, asks } = book;
-    fits(bids, |a, b| a > b) && fits(asks, |a, b| a < b) && (bids.count == 0 || asks.count == 0 || bids.prices[0] < asks.prices[0])
+    let Book { bids, asks, .. } = book;
+    fits(&bids.prices, &bids.quantities, bids.count, |a, b| a > b)
+        && fits(&asks.prices, &asks.quantities, asks.count, |a, b| a < b)
+        && (bids.count == 0 || asks.count == 0 || bids.prices[0] < asks.prices[0])
+}
+
+/// Of the rows and the counts, by the call of C that the archive has. The name keeps the compiler from another way of calling it.
+#[no_mangle]
+#[inline(never)]
+pub extern "C" fn is_book_by_rows(bid_prices: &Row, bid_quantities: &Row, ask_prices: &Row, ask_quantities: &Row, counts: Counts) -> bool {
+    let Counts { bids, asks, .. } = counts;
+    fits(bid_prices, bid_quantities, bids, |a, b| a > b)
+        && fits(ask_prices, ask_quantities, asks, |a, b| a < b)
+        && (bids == 0 || asks == 0 || bid_prices[0] < ask_prices[0])
 }

@@ -13,7 +13,9 @@ fn fits(side: &Side, ahead: impl Fn(u32, u32) -> bool) -> bool {
         && unused_prices.iter().chain(unused_quantities).all(|unused| *unused == 0)
 }
 
+/// Of a record by reference. A call, as of a library's function.
+#[inline(never)]
 pub fn is_book(book: &Book) -> bool {
-    let Book { bids, asks } = book;
+    let Book { bids, asks, .. } = book;
     fits(bids, |a, b| a > b) && fits(asks, |a, b| a < b) && (bids.count == 0 || asks.count == 0 || bids.prices[0] < asks.prices[0])
 }

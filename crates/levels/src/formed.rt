@@ -3,14 +3,13 @@
 ghost use mathlib.Core.Path.{_≡_};
 ghost use mathlib.Core.Bool.{true, _&&_};
 ghost use mathlib.Core.List.{map};
-ghost use Prim.Native.Nat.{_≤_, _^_};
+ghost use Prim.Native.Nat.{_≤_, _<_, _^_};
 ghost use lib.Bits.{bitXor};
 ghost use lib.ListN.{length, take, drop};
 ghost use Rattle.types.specs.Limits.{within, maxPrice, maxQuantity};
 ghost use Rattle.levels.specs.Order.{aheadOf, inOrder, steps};
 ghost use Rattle.levels.specs.Table.{rows};
 ghost use Rattle.levels.specs.Formed.{every, zeros, wellFormed};
-use crate::search::ahead;
 use types::Side;
 
 // Whether `x` is from `lo` to `hi`.
@@ -24,20 +23,25 @@ fn fits(x: u32, lo: u32, hi: u32) -> bool
 }
 
 // Whether `a` is ahead of `b`, the highest bit of both turned: the processor has one instruction for that, and needs three for plain numbers.
+// Each arm turns its own, so that the compiler sees it.
 fn ahead_turned(side: Side, a: u32, b: u32) -> bool
     ensures { λ r. ⌜ r ≡ aheadOf side (bitXor a (2 ^ 31)) (bitXor b (2 ^ 31)) ⌝ }
 {
-    ahead(side, a ^ 0x8000_0000, b ^ 0x8000_0000)
+    match side {
+        Side::Bid => b ^ 0x8000_0000 < a ^ 0x8000_0000,
+        Side::Ask => a ^ 0x8000_0000 < b ^ 0x8000_0000,
+    }
 }
 
 // How many of the first `n` prices are, turned, ahead of the next.
 fn count_steps(side: Side, prices: &[u32; 128], n: usize) -> usize
-    requires { ⌜ (length (now prices) ≡ 128) × (n ≤ 128) ⌝ }
+    requires { ⌜ (length (now prices) ≡ 128) × (n ≤ 128) × (0 < n) ⌝ }
     ensures { λ r. ⌜ r ≡ steps side (take n (map (λ x. bitXor x (2 ^ 31)) (now (prices .entry)))) ⌝ }
 {
+    let last = n - 1;
     let mut count: u32 = 0;
     let mut i: usize = 0;
-    while i + 1 < n {
+    while i < last {
         if ahead_turned(side, prices[i], prices[i + 1]) {
             count += 1;
         }
@@ -48,12 +52,9 @@ fn count_steps(side: Side, prices: &[u32; 128], n: usize) -> usize
 
 // Whether each of the first `n` prices is, turned, ahead of the next.
 fn ordered(side: Side, prices: &[u32; 128], n: usize) -> bool
-    requires { ⌜ (length (now prices) ≡ 128) × (n ≤ 128) ⌝ }
+    requires { ⌜ (length (now prices) ≡ 128) × (n ≤ 128) × (0 < n) ⌝ }
     ensures { λ r. ⌜ r ≡ inOrder side (take n (map (λ x. bitXor x (2 ^ 31)) (now (prices .entry)))) ⌝ }
 {
-    if n == 0 {
-        return true;
-    }
     count_steps(side, prices, n) == n - 1
 }
 
@@ -63,11 +64,11 @@ fn prices_fit(side: Side, prices: &[u32; 128], n: usize) -> bool
     requires { ⌜ (length (now prices) ≡ 128) × (n ≤ 128) ⌝ }
     ensures { λ r. ⌜ r ≡ inOrder side (take n (now (prices .entry))) && every (within 1 maxPrice) (take n (now (prices .entry))) ⌝ }
 {
-    if !ordered(side, prices, n) {
-        return false;
-    }
     if n == 0 {
         return true;
+    }
+    if !ordered(side, prices, n) {
+        return false;
     }
     if !fits(prices[0], 1, types::MAX_PRICE) {
         return false;

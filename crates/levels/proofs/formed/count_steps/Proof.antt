@@ -13,10 +13,10 @@ use Rattle.levels.proofs.formed.count_steps.Statement.{statement}
 use Rattle.levels.proofs.formed.count_steps.Tie as tie
 
 abbrev Inv-loop : tie.InvT-loop
-Inv-loop side prices n count₀ i₀ count i = (i ≤ n) × (count ≤ i) × (steps side (take n (map turned prices)) ≡ count + steps side (drop i (take n (map turned prices))))
+Inv-loop side prices n last₀ count₀ i₀ count i = (i ≤ n) × (count ≤ i) × (steps side (take n (map turned prices)) ≡ count + steps side (drop i (take n (map turned prices))))
 
 abbrev μ-loop : tie.MeasureT-loop
-μ-loop side prices n count₀ i₀ count i = n - i
+μ-loop side prices n last₀ count₀ i₀ count i = n - i
 
 sized : (c : tie.Start Inv-loop μ-loop) → c .args .n ≤ length (c .args .prices .now)
 sized c = omega arith
@@ -26,7 +26,7 @@ loop-again c =
     let d = c .before .before .before .before in
     let a = d .before .before .args in
     let l = d .before .loop in
-    let turn = turned-turn (a .side) (a .prices .now) (a .n) (sized (d .before .before)) (l .i) (d .loop-test .taken) in
+    let turn = turned-turn (a .side) (a .prices .now) (a .n) (sized (d .before .before)) (l .i) (omega arith) in
     let test = c .before .ahead-turned .ensures in
     ⊎-elim
     (λ w. let e = rw (sym test ∙ w .0 .taken) at turn in (omega arith, omega (arith, w .1), omega (arith, w .1, l .inv .2, e)))
@@ -41,7 +41,7 @@ returns c =
     let row = map turned (a .prices .now) in
     let m = length-map (a .prices .now) turned in
     let few = sized s in
-    omega (arith, l .inv .2, steps-end row (a .n) (omega arith) (l .i) (a .side) (c .loop-test .left))
+    omega (arith, l .inv .2, steps-end row (a .n) (omega arith) (l .i) (a .side) (omega arith))
 
 pub count-steps-spec : {M : Type 1} → statement M
 count-steps-spec =

@@ -22,19 +22,20 @@ ends :
     inOrder (a .side) (take (a .n) (a .prices .now)) && every (within 1 maxPrice) (take (a .n) (a .prices .now)) ≡
     within 1 maxPrice (getD (a .prices .now) 0 0) && within 1 maxPrice (getD (a .prices .now) (a .n - 1) 0)
 ends c =
-    let d = c .before .before in
-    let a = d .before .args in
-    turned-in (a .side) (a .prices .now) (a .n) (omega arith) (omega arith) (passed (d .ordered .ensures) (c .before .if1 .left))
+    let a = c .before .before .before .args in
+    turned-in (a .side) (a .prices .now) (a .n) (omega arith) (omega arith) (passed (c .before .ordered .ensures) (c .if2 .left))
 
 pub prices-fit-spec : {M : Type 1} → statement M
 prices-fit-spec =
     tie.close
     (tie.spec
+    (λ c.
+    let a = c .before .args in
+    rw (order-none (a .side) (a .prices .now) (a .n) (c .if1 .taken), every-end (a .prices .now) (a .n) (omega arith) 0 (within 1 maxPrice) (omega arith)))
     (λ c κs. search needs)
-    (λ c. let a = c .before .before .args in sym (turned-out (a .side) (a .prices .now) (a .n) (failed (c .before .ordered .ensures) (c .if1 .taken))))
     (λ c.
     let a = c .before .before .before .args in
-    rw (order-none (a .side) (a .prices .now) (a .n) (c .if2 .taken), every-end (a .prices .now) (a .n) (omega arith) 0 (within 1 maxPrice) (omega arith)))
+    sym (turned-out (a .side) (a .prices .now) (a .n) (failed (c .before .ordered .ensures) (c .if2 .taken))))
     (λ c. search needs)
     (λ c κs. search needs)
     (λ c. let e = c .before .before .before in rw (ends e, failed (c .before .fits2 .ensures) (c .if3 .taken)))
