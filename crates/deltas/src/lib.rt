@@ -80,7 +80,7 @@ impl Counts {
     }
 
     // The counts with one side's count and a sequence.
-    fn with(self, side: Side, n: usize, sequence: u64) -> Counts
+    pub fn with(self, side: Side, n: usize, sequence: u64) -> Counts
         ensures { λ r. ⌜ r ≡ withCount side n sequence self ⌝ }
     {
         match side {

@@ -150,26 +150,14 @@ pub fn remove_all(
         Side::Bid => {
             *bp = [0; 128];
             *bq = [0; 128];
-            RowsApplied {
-                counts: Counts {
-                    bids: 0,
-                    asks: counts.asks,
-                    sequence: counts.sequence,
-                },
-                outcome: Outcome::Done,
-            }
         }
         Side::Ask => {
             *ap = [0; 128];
             *aq = [0; 128];
-            RowsApplied {
-                counts: Counts {
-                    bids: counts.bids,
-                    asks: 0,
-                    sequence: counts.sequence,
-                },
-                outcome: Outcome::Done,
-            }
         }
+    }
+    RowsApplied {
+        counts: counts.with(side, 0, counts.sequence),
+        outcome: Outcome::Done,
     }
 }

@@ -1,5 +1,6 @@
 -- `rows::remove_all` meets its contract: one side's rows become empty, and rows that make no book are left as they were.
 use borrow.Author.Needs.{needs}
+use mathlib.Core.Logic.{⊎-elim}
 use Rattle.types.proofs.Booleans.{passed, failed}
 use Rattle.orderbook.specs.Apply.{sideCleared}
 use Rattle.orderbook.proofs.rows.remove_all.Statement.{statement}
@@ -14,11 +15,11 @@ remove-all-spec =
     (λ c. rw (failed (c .before .is-book .ensures .0) (c .if1 .taken)))
     (λ c. search needs)
     (λ c. search needs)
+    (λ c κs. search needs)
     (λ c.
-    let t = c .before .before in
-    let e = t .before .before in
-    rw (passed (e .before .is-book .ensures .0) (e .if1 .left), t .enum-told .given .1))
-    (λ c.
-    let t = c .before .before in
-    let e = t .before .before in
-    rw (passed (e .before .is-book .ensures .0) (e .if1 .left), t .enum-told2 .given .1)))
+    let e = c .before .before in
+    let book = passed (e .before .is-book .ensures .0) (e .if1 .left) in
+    ⊎-elim
+    (λ w. rw (c .with .ensures, w .4, w .5, w .6, w .7, book, w .1 .given .1))
+    (λ w. rw (c .with .ensures, w .4, w .5, w .6, w .7, book, w .1 .given .1))
+    (c .before .match .came)))
