@@ -2,11 +2,12 @@
 // leniently, tested, written again and compared, so that what is no digit, another kind, a wrong check byte and a missing line feed need no
 // test of their own. A snapshot's line stands in `lines`.
 ghost use mathlib.Core.Path.{_≡_};
-ghost use mathlib.Core.List.{_++_};
+ghost use mathlib.Core.List.{[], _++_};
 ghost use Prim.Native.Nat.{_≤_};
 ghost use lib.ListN.{length, drop};
 ghost use Rattle.types.specs.Answers.{replyOfNumber};
 ghost use Rattle.types.specs.Written.{written};
+ghost use Rattle.wire.specs.Wire.{Part, be};
 ghost use Rattle.frames.specs.Frames.{delta, encode, isWhole};
 ghost use Rattle.frames.specs.Decode.{deltaIn, same, decode, deltaRead, replyOfDelta};
 ghost use Rattle.frames.specs.Sent.{asSent, deltaLine};
@@ -51,6 +52,28 @@ fn as_sent(d: BookDelta) -> BookDelta
     sent
 }
 
+// Writes a delta's kind, side and action, and returns the sum of their bytes.
+fn put_kind(out: &mut [u8], side: u64, action: u64) -> u64
+    requires { ⌜ 6 ≤ length (now out) ⌝ }
+    ensures { λ r. ⌜ Part (be 1 1 (be 1 side (be 1 action []))) 0 (now (out .entry)) (now (out .exit)) r ⌝ }
+{
+    let sum = wire::put(out, 0, 1, 1);
+    let sum2 = wire::put(out, 1, 1, side);
+    let sum3 = wire::put(out, 2, 1, action);
+    sum + (sum2 + sum3)
+}
+
+// Writes a delta's price, quantity and sequence, and returns the sum of their bytes.
+fn put_numbers(out: &mut [u8], price: u32, quantity: u32, sequence: u64) -> u64
+    requires { ⌜ 38 ≤ length (now out) ⌝ }
+    ensures { λ r. ⌜ Part (be 4 price (be 4 quantity (be 8 sequence []))) 3 (now (out .entry)) (now (out .exit)) r ⌝ }
+{
+    let sum = wire::put(out, 3, 4, price as u64);
+    let sum2 = wire::put(out, 7, 4, quantity as u64);
+    let sum3 = wire::put(out, 11, 8, sequence);
+    sum + (sum2 + sum3)
+}
+
 // Writes a delta's line at the front of `out`.
 fn put_delta(d: BookDelta, out: &mut [u8])
     requires { ⌜ 41 ≤ length (now out) ⌝ }
@@ -58,17 +81,8 @@ fn put_delta(d: BookDelta, out: &mut [u8])
 {
     let side = d.side;
     let action = d.action;
-    let sum = wire::put3(out, 0, 1, 1, 1, side.number(), 1, action.number());
-    let sum2 = wire::put3(
-        out,
-        3,
-        4,
-        d.price as u64,
-        4,
-        d.quantity as u64,
-        8,
-        d.sequence,
-    );
+    let sum = put_kind(out, side.number(), action.number());
+    let sum2 = put_numbers(out, d.price, d.quantity, d.sequence);
     wire::finish(out, 19, sum + sum2);
 }
 
@@ -109,7 +123,7 @@ fn is_line_of(line: &[u8], d: BookDelta) -> bool
 {
     let mut own = [0u8; 41];
     put_delta(d, &mut own);
-    check::same(line, &own)
+    wire::same(line, &own)
 }
 
 // The delta that a line is; 12 for any other line. The line has its line feed.

@@ -185,7 +185,7 @@ fn is_line_of(line: &[u8], book: OrderBook) -> bool
         counts,
         &mut own,
     );
-    check::same(line, &own[..n])
+    wire::same(line, &own[..n])
 }
 
 fn damaged() -> Applied

@@ -1,3 +1,4 @@
 pub mod Bytes
 pub mod Taken
 pub mod Places
+pub mod Alike

@@ -1,16 +1,18 @@
 // Numbers as hexadecimal digits in lent memory: what the frames of the feed are read and written with. Places and widths count bytes,
 // of two digits each. specs/Wire.antt says what the digits, the check byte and a line are.
 ghost use mathlib.Core.Path.{_≡_};
+ghost use mathlib.Core.Bool.{true};
 ghost use mathlib.Core.List.{[], _∷_, _++_};
 ghost use Prim.Native.Nat.{_+_, _-_, _*_, _%_, _≤_, _<_};
 ghost use lib.ListN.{length, take, drop};
 ghost use Rattle.wire.specs.Wire.{lineFeed, digit as digitOf, value as valueOf, digitsOf, be, field as fieldOf, column, Part};
 
+// A letter from 10 on: there the sum with 6 reaches 16, which costs a shift where a division by 10 costs a product.
 fn digit(d: u8) -> u8
     requires { ⌜ d < 16 ⌝ }
     ensures { λ r. ⌜ r ≡ digitOf d ⌝ }
 {
-    48 + d + 7 * (d / 10)
+    48 + d + 7 * ((d + 6) / 16)
 }
 
 fn value(c: u8) -> u64
@@ -103,4 +105,22 @@ pub fn finish(out: &mut [u8], at: usize, sum: u64)
 {
     put(out, at, 1, (256 - sum % 256) % 256);
     out[2 * at + 2] = 10;
+}
+
+// Whether two slices hold the same bytes. The bits in which they differ are laid over each other, with no way out of the loop, so that it takes
+// many bytes a turn.
+pub fn same(a: &[u8], b: &[u8]) -> bool
+    ensures { λ r. ⌜ (r ≡ true → now (a .entry) ≡ now (b .entry)) × (now (a .entry) ≡ now (b .entry) → r ≡ true) ⌝ }
+{
+    if a.len() != b.len() {
+        return false;
+    }
+    let n = a.len();
+    let mut bits: u8 = 0;
+    let mut i = 0;
+    while i < n {
+        bits |= a[i] ^ b[i];
+        i += 1;
+    }
+    bits == 0
 }

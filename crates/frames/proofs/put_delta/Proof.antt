@@ -9,31 +9,23 @@ use Rattle.frames.proofs.put_delta.Tie as tie
 
 add-finish : tie.Need-add-finish
 add-finish c =
-    let s = c .before .before .before .before .before .before .before .before .before .put3 .ensures .small in
-    let t = c .before .before .before .put32 .ensures .small in
+    let s = c .before .before .before .before .before .before .before .put-kind .ensures .small in
+    let t = c .before .before .before .put-numbers .ensures .small in
     omega arith
 
 finish-requires : tie.Need-finish-requires
-finish-requires c κs =
-    omega (
-      arith,
-      c .before .before .before .before .before .before .before .before .before .put3 .kept .0,
-      c .before .before .before .put32 .kept .0,
-      c .before .before .before .before .before .before .before .before .before .before .before .before .before .before .pre,
-    )
+finish-requires c κs = omega (arith, c .before .before .before .before .before .before .before .put-kind .kept .0, c .before .before .before .put-numbers .kept .0, c .before .before .before .before .before .before .before .before .before .before .before .before .pre)
 
 same-length : tie.Need-same-length
-same-length c =
-    c .before .before .finish .kept .0 ∙ c .before .before .before .before .before .before .put32 .kept .0
-    ∙ c .before .before .before .before .before .before .before .before .before .before .before .before .put3 .kept .0
+same-length c = c .before .before .finish .kept .0 ∙ c .before .before .before .before .before .before .put-numbers .kept .0 ∙ c .before .before .before .before .before .before .before .before .before .before .put-kind .kept .0
 
 returns : tie.Need-returns
 returns c =
-    let start = c .before .before .before .before .before .before .before .before .before .before .before .before .before .before .before .before .before in
-    let action = c .before .before .before .before .before .before .before .before .before .before .before .before .before .number2 in
-    let side = c .before .before .before .before .before .before .before .before .before .before .before .before .before .before .number in
-    let p = c .before .before .before .before .before .before .before .before .before .before .before .before .put3 in
-    let q = c .before .before .before .before .before .before .put32 in
+    let start = c .before .before .before .before .before .before .before .before .before .before .before .before .before .before .before in
+    let action = c .before .before .before .before .before .before .before .before .before .before .before .number2 in
+    let side = c .before .before .before .before .before .before .before .before .before .before .before .before .number in
+    let p = c .before .before .before .before .before .before .before .before .before .before .put-kind in
+    let q = c .before .before .before .before .before .before .put-numbers in
     let f = c .before .before .finish in
     delta-written (start .args .d) (side .result) (action .result) (now (start .args .out)) (p .last .0) (q .last .0) (f .last .0) (p .result) (q .result)
     (side .ensures) (action .ensures) (p .ensures) (q .ensures) (f .ensures) (start .pre)
@@ -45,8 +37,6 @@ put-delta-spec =
     (λ c κs. search needs)
     (λ c κs. search needs)
     (λ c κs. search needs)
-    (λ c. search needs)
-    (λ c. search needs)
     (λ c κs. search needs)
     add-finish
     finish-requires
