@@ -5,23 +5,17 @@
 #   RUNS=1 bash bench/record.sh       another number of runs than 5; each takes about a second
 # Needs rustc 1.66 or newer, and the Rattle toolchain or an archive that WERMAZUL_ARCHIVE names.
 set -euo pipefail
-archive=
-if [ -n "${WERMAZUL_ARCHIVE:-}" ]; then
-  archive=$(readlink -f "$WERMAZUL_ARCHIVE") && [ -r "$archive" ] || { echo "The archive $WERMAZUL_ARCHIVE cannot be read." >&2; exit 1; }
-fi
-cd "$(dirname "$(readlink -f "${BASH_SOURCE[0]}")")/.."
-if [ "$(uname -sm)" != "Linux x86_64" ]; then echo "The archive is for x86-64 Linux, and a time under an emulator says nothing." >&2; exit 1; fi
-if ! command -v rustc >/dev/null; then echo "rustc is missing: install Rust 1.66 or newer." >&2; exit 1; fi
-if [ -z "$archive" ]; then
-  if ! command -v rt >/dev/null; then echo "rt is not in PATH: install the Rattle toolchain, or set WERMAZUL_ARCHIVE." >&2; exit 1; fi
-  echo "Building the library: rt staticlib exports" >&2
-  rt staticlib exports >&2
-  archive=$PWD/target/staticlib/libexports.a
-fi
+root=$(dirname "$(readlink -f "${BASH_SOURCE[0]}")")/..
+. "$root/bindings/needs.sh"
+need rustc "it is the Rust compiler, 1.66 or newer"
+use_archive
+cd "$root"
 work=$PWD/target/bench/record
 mkdir -p "$work"
-cp "$archive" "$work/libexports.a"
-rustc --edition 2021 -C opt-level=3 -C codegen-units=1 -C target-cpu=x86-64 -L "native=$work" -l static=exports -o "$work/record" bench/record/main.rs
+cp "$WERMAZUL_ARCHIVE" "$work/libexports.a"
+plain=()
+[ "$MACHINE" != x86_64 ] || plain=(-C target-cpu=x86-64)
+rustc --edition 2021 -C opt-level=3 -C codegen-units=1 "${plain[@]}" -L "native=$work" -l static=exports -o "$work/record" bench/record/main.rs
 "$work/record" compare
 echo "$(rustc --version | cut -d' ' -f1,2), $(nproc) cores, load before the runs: $(cut -d' ' -f1-3 /proc/loadavg)"
 for run in $(seq "${RUNS:-5}"); do
