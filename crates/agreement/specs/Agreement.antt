@@ -76,7 +76,7 @@ module _ (ds : List BookDelta) where
 
   -- ── the channel ──
 
-  -- any of its frames, in any order, any of them missing or there again, each as sent or damaged in one of the ways of docs/FEED.md
+  -- any of its frames, in any order, any of them missing or there again, each as sent, or with a digit replaced, its end cut off or its line feed lost
   abbrev pub Comes : List Piece → Type 0
   Comes [] = Unit {0}
   Comes (p ∷ ps) = IsDamage p × Sends (frameOf p) × Comes ps
