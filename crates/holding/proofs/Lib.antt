@@ -2,4 +2,5 @@
 pub mod Holdings
 pub mod Averages
 pub mod Stays
+pub mod Places
 pub mod Sources

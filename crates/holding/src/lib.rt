@@ -6,6 +6,7 @@ use types::Side;
 
 mod fills; // fills.rt: what a fill moves
 mod limits; // limits.rt: the tests
+pub mod rows; // rows.rt: positions in lent rows
 
 pub struct Fill {
     pub symbol: u32,

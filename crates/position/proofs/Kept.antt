@@ -1,39 +1,30 @@
 -- What every change keeps (specs/Kept.antt), proved.
-use Prim.Native.Nat.{ℕ, zero, suc, _<_}
+use Prim.Native.Nat.{ℕ}
 use mathlib.Core.Path.{_≡_, refl, _∙_}
 use mathlib.Core.Bool.{Bool, true, false, not, cond, and-eq-true-iff}
 use mathlib.Core.List.{List, [], _∷_}
 use native.Mathlib.Omega.{arith}
 use borrow.Author.Tests.{eqb-true}
 use lib.Dec.{eqb}
-use lib.ListN.{getD, set}
 use lib.IntN.{ℤ, pos, natAbs, _+ℤ_}
 use Rattle.amount.specs.Sums.{allTo}
-use Rattle.amount.proofs.Sums.{all-each}
 use Rattle.types.specs.Limits.{sizedWithin, maxDeposit, maxPosition, isPrice}
 use Rattle.types.specs.Replies.{Reply, done, refused}
 use Rattle.holding.specs.Holding.{isPosition, isFill, charge, positionAfter}
-use Rattle.position.specs.Ledger.{flat, positionAt, isMoney, isPositionAt, isLedger, Change, changed, kept, provided, fresh, created, cashAfter, bearsFill, isShort, filled, settled, booked, withCash, deposited}
+use Rattle.holding.specs.Rows.{arePositions}
+use Rattle.position.specs.Ledger.{positionAt, isMoney, isLedger, Change, changed, kept, provided, fresh, created, cashAfter, bearsFill, isShort, filled, settled, booked, withCash, deposited}
 use Rattle.position.specs.Kept.{Keeps, FillKeeps, DepositKeeps, NewIsLedger, AveragesFit}
-use Rattle.holding.specs.declared.Position.{Position}
 use Rattle.holding.specs.declared.Fill.{Fill}
 use Rattle.position.specs.declared.PositionLedger.{PositionLedger}
 use Rattle.holding.proofs.Stays.{position-stays}
 use Rattle.holding.proofs.Holdings.{fill-in}
+use Rattle.holding.proofs.Places.{RowsIn, rows-of, put-fits}
 use Rattle.position.proofs.Ledgers.{ledger-in}
 
--- an element is changed: what holds of the old ones and of the new holds of each
-set-each : (t : Position → Bool) (ps : List Position) (i k : ℕ) (p d : Position) → t (getD ps k d) ≡ true → t p ≡ true → t (getD (set ps i p) k d) ≡ true
-set-each t [] i k p d h hp = h
-set-each t (x ∷ ps) zero zero p d h hp = hp
-set-each t (x ∷ ps) zero (suc k) p d h hp = h
-set-each t (x ∷ ps) (suc i) zero p d h hp = h
-set-each t (x ∷ ps) (suc i) (suc k) p d h hp = set-each t ps i k p d h hp
-
 -- the ledger's parts make it one
-ledger-of : (l : PositionLedger) → isMoney (l .cash .value) ≡ true → isMoney (l .commission .value) ≡ true → ((i : ℕ) → i < 32 → isPosition (positionAt l i) ≡ true) → isLedger l ≡ true
+ledger-of : (l : PositionLedger) → isMoney (l .cash .value) ≡ true → isMoney (l .commission .value) ≡ true → RowsIn (l .quantities) (l .averages) (l .realized) → isLedger l ≡ true
 unfolding isLedger
-ledger-of l hc hk h = rw (hc, hk) (all-each (isPositionAt l) 32 h)
+ledger-of l hc hk h = rw (hc, hk) (rows-of (l .quantities) (l .averages) (l .realized) h)
 
 -- no reply is both
 never : {P : Type 0} (r : Reply (Unit {0})) (n : ℕ) (vs : List ℤ) → r ≡ done tt → r ≡ refused n vs → P
@@ -55,9 +46,10 @@ filled-ledger l f hl hf hb =
     let a = and-eq-true-iff (isMoney (cashAfter (l .cash .value) f)) _ .0 hb in
     let b = and-eq-true-iff (isMoney (l .commission .value +ℤ f .commission .value)) _ .0 (a .1) in
     let c = and-eq-true-iff (sizedWithin maxPosition (p .quantity .value)) _ .0 (b .1) in
-    let each = ledger-in l hl .each in
+    let w = ledger-in l hl .rows in
+    let here = fill-in f hf .symbol-in in
     ledger-of (filled l f) (a .0) (b .0)
-    (λ i m. set-each isPosition (l .positions) (f .symbol) i p flat (each i m) (position-stays (positionAt l (f .symbol)) f (each (f .symbol) (fill-in f hf .symbol-in)) hf (c .0) (c .1)))
+    (put-fits (l .quantities) (l .averages) (l .realized) w (f .symbol) here p (position-stays (positionAt l (f .symbol)) f (w .each (f .symbol) here) hf (c .0) (c .1)))
 
 pub fill-keeps : FillKeeps
 unfolding booked settled
@@ -90,10 +82,10 @@ deposit-keeps l d =
     keeps-provided l (isLedger l) 1 [] _ (λ h.
     keeps-provided l (sizedWithin maxDeposit d) 2 [] _ (λ _.
     keeps-provided l (isMoney (l .cash .value +ℤ d)) 9 [] (changed m) (λ hc.
-    keeps-done l m (ledger-of m hc (ledger-in l h .paid) (ledger-in l h .each)))))
+    keeps-done l m (ledger-of m hc (ledger-in l h .paid) (ledger-in l h .rows)))))
 
 pub new-is-ledger : NewIsLedger
-unfolding created isLedger isPosition allTo
+unfolding created isLedger arePositions isPosition allTo
 new-is-ledger cash = by (isMoney cash) refl
   where
     by : (t : Bool) → isMoney cash ≡ t → isLedger (cond t (changed (fresh cash)) (kept (fresh (pos 0)) 2 []) .ledger) ≡ true
@@ -104,7 +96,7 @@ pub averages-fit : AveragesFit
 unfolding isPosition
 averages-fit l h i m =
     let p = positionAt l i in
-    let a = and-eq-true-iff (sizedWithin maxPosition (p .quantity .value)) _ .0 (ledger-in l h .each i m) in
+    let a = and-eq-true-iff (sizedWithin maxPosition (p .quantity .value)) _ .0 (ledger-in l h .rows .each i m) in
     by (eqb (natAbs (p .quantity .value)) 0) (p .average) (and-eq-true-iff (isMoney (p .realized .value)) _ .0 (a .1) .1)
   where
     by : (t : Bool) (v : ℕ) → cond t (eqb v 0) (isPrice v) ≡ true → isPrice v ≡ not t

@@ -4,19 +4,18 @@ use mathlib.Core.Path.{_≡_}
 use mathlib.Core.Bool.{true, and-eq-true-iff}
 use borrow.Author.Tests.{leb-true}
 use lib.IntN.{natAbs}
-use Rattle.amount.proofs.Sums.{all-at}
-use Rattle.holding.specs.Holding.{isPosition}
 use Rattle.holding.specs.Inner.Sizes.{PositionIn}
-use Rattle.position.specs.Ledger.{positionAt, isPositionAt, isLedger, isMoney}
+use Rattle.position.specs.Ledger.{positionAt, isLedger, isMoney}
 use Rattle.position.specs.declared.PositionLedger.{PositionLedger}
 use Rattle.holding.proofs.Holdings.{position-in}
+use Rattle.holding.proofs.Places.{RowsIn, rows-in}
 
 -- what a ledger has
 pub record LedgerIn (l : PositionLedger) : Type 0 where
   pub cash-in : natAbs (l .cash .value) ≤ 4000000000000000000
   pub commission-in : natAbs (l .commission .value) ≤ 4000000000000000000
   pub paid : isMoney (l .commission .value) ≡ true
-  pub each : (i : ℕ) → i < 32 → isPosition (positionAt l i) ≡ true
+  pub rows : RowsIn (l .quantities) (l .averages) (l .realized)
 
 pub ledger-in : (l : PositionLedger) → isLedger l ≡ true → LedgerIn l
 unfolding isLedger
@@ -27,8 +26,8 @@ ledger-in l h =
       cash-in = leb-true _ _ (a .0);
       commission-in = leb-true _ _ (b .0);
       paid = b .0;
-      each = λ i m. all-at (isPositionAt l) 32 i m (b .1);
+      rows = rows-in (l .quantities) (l .averages) (l .realized) (b .1);
     }
 
 pub held-in : (l : PositionLedger) → isLedger l ≡ true → (i : ℕ) → i < 32 → PositionIn (positionAt l i)
-held-in l h i m = position-in (positionAt l i) (ledger-in l h .each i m)
+held-in l h i m = position-in (positionAt l i) (ledger-in l h .rows .each i m)

@@ -21,6 +21,6 @@ run-is-ours l m fs h r = each h r
     each h no-fill = refl
     each h (one-fill l m f fs q e s r) =
         let t = fill-done l f e in
-        let k : q ≡ positionAfter (positionAt l (f .symbol)) f = source-is-ours (positionAt l (f .symbol)) f q (ledger-in l h .each (f .symbol) (fill-in f (t .2) .symbol-in)) s in
+        let k : q ≡ positionAfter (positionAt l (f .symbol)) f = source-is-ours (positionAt l (f .symbol)) f q (ledger-in l h .rows .each (f .symbol) (fill-in f (t .2) .symbol-in)) s in
         let z : filledWith l f q ≡ filled l f = ap (λ (p : Position). filledWith l f p) k in
         each (ap isLedger z ∙ t .1) r ∙ ap (λ (n : PositionLedger). bookedAll n fs) (z ∙ sym (t .0))

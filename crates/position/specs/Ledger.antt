@@ -2,41 +2,33 @@
 use Prim.Native.Nat.{ℕ}
 use mathlib.Core.Bool.{Bool, not, false, _&&_, cond}
 use mathlib.Core.List.{List, [], _∷_}
-use lib.ListN.{getD, set, replicate}
+use lib.ListN.{set, replicate}
 use lib.IntN.{ℤ, pos, _+ℤ_, _-ℤ_}
 use lib.Signed.{ltZ}
-use Rattle.amount.specs.Sums.{allTo}
 use Rattle.amount.specs.Whole.{amount}
 use Rattle.types.specs.Limits.{sizedWithin, symbols, maxDeposit, maxPosition, maxMoney}
 use Rattle.types.specs.Replies.{Reply, done, refused}
 use Rattle.types.specs.Answers.{replyOfOutcome}
 use Rattle.types.specs.declared.Side.{Side}
 use Rattle.types.specs.declared.Side.the-variants.{Bid, Ask}
-use Rattle.holding.specs.Holding.{isPosition, isFill, charge, positionAfter}
+use Rattle.holding.specs.Holding.{isFill, charge, positionAfter}
+use Rattle.holding.specs.Rows.{positionOf, arePositions}
 use Rattle.holding.specs.declared.Position.{Position}
 use Rattle.holding.specs.declared.Fill.{Fill}
 use Rattle.position.specs.declared.PositionLedger.{PositionLedger}
 use Rattle.position.specs.declared.Booked.{Booked}
 
--- a position never traded
-abbrev pub flat : Position
-flat = record { quantity = amount (pos 0); average = 0; realized = amount (pos 0) }
-
 -- the position of a symbol
 abbrev pub positionAt : PositionLedger → ℕ → Position
-positionAt l i = getD (l .positions) i flat
+positionAt l i = positionOf (l .quantities) (l .averages) (l .realized) i
 
 -- a money total within its limit
 abbrev pub isMoney : ℤ → Bool
 isMoney z = sizedWithin maxMoney z
 
--- the position of a symbol is within its limits
-abbrev pub isPositionAt : PositionLedger → ℕ → Bool
-isPositionAt l i = isPosition (positionAt l i)
-
 -- the limits hold, of the totals and of each position
 unfoldable pub isLedger : PositionLedger → Bool
-isLedger l = isMoney (l .cash .value) && (isMoney (l .commission .value) && allTo (isPositionAt l) symbols)
+isLedger l = isMoney (l .cash .value) && (isMoney (l .commission .value) && arePositions (l .quantities) (l .averages) (l .realized))
 
 -- a ledger and the reply beside it
 pub record Change : Type 0 where
@@ -61,7 +53,13 @@ provided l t n vs next = cond t next (kept l n vs)
 
 -- a new ledger is all 0 but for its cash
 abbrev pub fresh : ℤ → PositionLedger
-fresh cash = record { cash = amount cash; commission = amount (pos 0); positions = replicate symbols flat }
+fresh cash = record {
+  cash = amount cash;
+  commission = amount (pos 0);
+  quantities = replicate symbols (pos 0);
+  averages = replicate symbols 0;
+  realized = replicate symbols (pos 0);
+}
 
 -- `new`: cash outside its limit gives 2, and beside it the ledger of cash 0
 unfoldable pub created : ℤ → Change
@@ -81,7 +79,9 @@ abbrev pub filledWith : PositionLedger → Fill → Position → PositionLedger
 filledWith l f p = record {
   cash = amount (cashAfter (l .cash .value) f);
   commission = amount (l .commission .value +ℤ f .commission .value);
-  positions = set (l .positions) (f .symbol) p;
+  quantities = set (l .quantities) (f .symbol) (p .quantity .value);
+  averages = set (l .averages) (f .symbol) (p .average);
+  realized = set (l .realized) (f .symbol) (p .realized .value);
 }
 
 -- the ledger after a fill
@@ -115,7 +115,13 @@ bookedAll l (f ∷ fs) = bookedAll (booked l f .ledger) fs
 
 -- the ledger with another cash
 abbrev pub withCash : PositionLedger → ℤ → PositionLedger
-withCash l cash = record { cash = amount cash; commission = l .commission; positions = l .positions }
+withCash l cash = record {
+  cash = amount cash;
+  commission = l .commission;
+  quantities = l .quantities;
+  averages = l .averages;
+  realized = l .realized;
+}
 
 -- `deposit`: 1, 2, 9, else the ledger with so much more cash
 unfoldable pub deposited : PositionLedger → ℤ → Change

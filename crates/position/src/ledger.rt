@@ -1,63 +1,61 @@
-// The ledger: the test for being one, and its changes. Each public call takes any record: it tests it first, and gives the same record
-// back with a refusal.
+// The ledger by value: its rows are changed in place, and put together again. Each call takes any record: it tests it first, and gives the
+// same record back with a refusal.
 ghost use mathlib.Core.Path.{_≡_};
-ghost use mathlib.Core.Bool.{true};
-ghost use Rattle.amount.specs.Sums.{allTo};
-ghost use Rattle.holding.specs.Inner.Sizes.{FillIn};
-ghost use Rattle.position.specs.Ledger.{isPositionAt, isLedger, changeOf, fresh, created, isShort, isBearable, settled, booked, deposited};
+ghost use Rattle.types.specs.Answers.{replyOfOutcome};
+ghost use Rattle.position.specs.Ledger.{isLedger, changeOf, fresh, created, booked, deposited};
+ghost use Rattle.position.specs.Lent.{ledgerAt, totalsIn};
 use crate::Booked;
 use crate::PositionLedger;
+use crate::RowsBooked;
+use crate::Totals;
+use crate::rows;
 use amount::Amount;
 use holding::Fill;
-use holding::Position;
-use types::MAX_DEPOSIT;
 use types::MAX_MONEY;
-use types::MAX_POSITION;
 use types::Outcome;
 use types::Refusal;
-use types::Side;
 
-// Whether a fill may not leave this cash: a Bid not less than zero, an Ask any.
-fn is_short(side: Side, cash: Amount) -> bool
-    ensures { λ r. ⌜ r ≡ isShort side (cash .value) ⌝ }
+// The ledger of three rows after a change.
+fn given(
+    quantities: [i64; 32],
+    averages: [u32; 32],
+    realized: [i64; 32],
+    done: RowsBooked,
+) -> Booked
+    ensures { λ r. ⌜ changeOf r ≡ record { ledger = ledgerAt quantities averages realized (done .totals); reply = replyOfOutcome (done .outcome) } ⌝ }
 {
-    let below = cash.is_negative();
-    match side {
-        Side::Bid => below,
-        Side::Ask => false,
-    }
-}
-
-// Whether the totals that a fill moves are within their limits.
-fn is_bearable(cash: Amount, commission: Amount, position: Position) -> bool
-    ensures { λ r. ⌜ r ≡ isBearable (cash .value) (commission .value) position ⌝ }
-{
-    let quantity = position.quantity;
-    let realized = position.realized;
-    if cash.within(MAX_MONEY) {
-        if commission.within(MAX_MONEY) {
-            if quantity.within(MAX_POSITION) {
-                return realized.within(MAX_MONEY);
-            }
-        }
-    }
-    false
+    let outcome = done.outcome;
+    let cash = done.totals.cash;
+    let commission = done.totals.commission;
+    let ledger = PositionLedger {
+        cash,
+        commission,
+        quantities,
+        averages,
+        realized,
+    };
+    Booked { ledger, outcome }
 }
 
 impl PositionLedger {
+    // What stands beside the rows.
+    pub fn totals(self) -> Totals
+        ensures { λ r. ⌜ r ≡ totalsIn self ⌝ }
+    {
+        let cash = self.cash;
+        let commission = self.commission;
+        Totals { cash, commission }
+    }
+
     fn fresh(cash: Amount) -> PositionLedger
         ensures { λ r. ⌜ r ≡ fresh (cash .value) ⌝ }
     {
-        let zero = Amount::of(0);
-        let flat = Position {
-            quantity: zero,
-            average: 0,
-            realized: zero,
-        };
         PositionLedger {
             cash,
-            commission: zero,
-            positions: [flat; 32],
+            commission: Amount::of(0),
+            quantities: [0; 32],
+            averages: [0; 32],
+            realized: [0; 32],
         }
     }
 
@@ -77,117 +75,35 @@ impl PositionLedger {
         }
     }
 
-    fn are_positions(self) -> bool
-        ensures { λ r. ⌜ r ≡ allTo (isPositionAt self) 32 ⌝ }
-    {
-        let mut i = 0;
-        while i < 32 {
-            let position = self.positions[i];
-            if position.is_position() {
-                i += 1;
-            } else {
-                return false;
-            }
-        }
-        true
-    }
-
     // Whether every limit holds, and each average is 0 exactly where its quantity is.
     pub fn is_ledger(self) -> bool
         ensures { λ r. ⌜ r ≡ isLedger self ⌝ }
     {
-        let cash = self.cash;
-        let commission = self.commission;
-        if cash.within(MAX_MONEY) {
-            if commission.within(MAX_MONEY) {
-                return self.are_positions();
-            }
-        }
-        false
-    }
-
-    // A fill within its limits, to a ledger: 8, then 9.
-    fn settle(mut self, fill: Fill) -> Booked
-        requires { ⌜ (isLedger self ≡ true) × FillIn fill ⌝ }
-        ensures { λ r. ⌜ changeOf r ≡ settled self fill ⌝ }
-    {
-        let side = fill.side;
-        let have = self.cash;
-        let need = fill.charge();
-        let cash = have.sub(need);
-        if is_short(side, cash) {
-            return Booked {
-                ledger: self,
-                outcome: Outcome::Refused(Refusal::InsufficientFunds { need, have }),
-            };
-        }
-        let paid = self.commission;
-        let commission = paid.add(fill.commission);
-        let i = fill.symbol as usize;
-        let position = self.positions[i];
-        let moved = position.after_fill(fill);
-        if is_bearable(cash, commission, moved) {
-            self.cash = cash;
-            self.commission = commission;
-            self.positions[i] = moved;
-            return Booked {
-                ledger: self,
-                outcome: Outcome::Done,
-            };
-        }
-        Booked {
-            ledger: self,
-            outcome: Outcome::Refused(Refusal::PastLimit),
-        }
+        let totals = self.totals();
+        rows::is_ledger(&self.quantities, &self.averages, &self.realized, totals)
     }
 
     // Takes a fill: cash, commission paid, and the symbol's position.
     pub fn apply_fill(self, fill: Fill) -> Booked
         ensures { λ r. ⌜ changeOf r ≡ booked self fill ⌝ }
     {
-        if self.is_ledger() {
-            if fill.is_fill() {
-                return self.settle(fill);
-            }
-            return Booked {
-                ledger: self,
-                outcome: Outcome::Refused(Refusal::OutOfLimits),
-            };
-        }
-        Booked {
-            ledger: self,
-            outcome: Outcome::Refused(Refusal::NotARecord),
-        }
+        let mut quantities = self.quantities;
+        let mut averages = self.averages;
+        let mut realized = self.realized;
+        let totals = self.totals();
+        let done = rows::apply_fill(&mut quantities, &mut averages, &mut realized, totals, fill);
+        given(quantities, averages, realized, done)
     }
 
     // Pays cash in, or out if the amount is negative.
-    pub fn deposit(mut self, amount: Amount) -> Booked
+    pub fn deposit(self, amount: Amount) -> Booked
         ensures { λ r. ⌜ changeOf r ≡ deposited self (amount .value) ⌝ }
     {
-        if self.is_ledger() {
-            if amount.within(MAX_DEPOSIT) {
-                let have = self.cash;
-                let balance = have.add(amount);
-                if balance.within(MAX_MONEY) {
-                    self.cash = balance;
-                    return Booked {
-                        ledger: self,
-                        outcome: Outcome::Done,
-                    };
-                }
-                return Booked {
-                    ledger: self,
-                    outcome: Outcome::Refused(Refusal::PastLimit),
-                };
-            }
-            return Booked {
-                ledger: self,
-                outcome: Outcome::Refused(Refusal::OutOfLimits),
-            };
-        }
-        Booked {
-            ledger: self,
-            outcome: Outcome::Refused(Refusal::NotARecord),
-        }
+        let quantities = self.quantities;
+        let averages = self.averages;
+        let realized = self.realized;
+        let totals = self.totals();
+        let done = rows::deposit(&quantities, &averages, &realized, totals, amount);
+        given(quantities, averages, realized, done)
     }
 }

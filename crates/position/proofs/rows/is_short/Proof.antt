@@ -1,7 +1,7 @@
--- `ledger::is_short`: each side's answer.
+-- `rows::is_short`: each side's answer.
 use borrow.Author.Needs.{needs}
-use Rattle.position.proofs.ledger.is_short.Statement.{statement}
-use Rattle.position.proofs.ledger.is_short.Tie as tie
+use Rattle.position.proofs.rows.is_short.Statement.{statement}
+use Rattle.position.proofs.rows.is_short.Tie as tie
 
 pub is-short-spec : {M : Type 1} → statement M
 is-short-spec =

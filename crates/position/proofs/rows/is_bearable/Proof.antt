@@ -1,7 +1,7 @@
--- `ledger::is_bearable`: each answer is what the tests so far say.
+-- `rows::is_bearable`: each answer is what the tests so far say.
 use borrow.Author.Needs.{needs}
-use Rattle.position.proofs.ledger.is_bearable.Statement.{statement}
-use Rattle.position.proofs.ledger.is_bearable.Tie as tie
+use Rattle.position.proofs.rows.is_bearable.Statement.{statement}
+use Rattle.position.proofs.rows.is_bearable.Tie as tie
 
 pub is-bearable-spec : {M : Type 1} → statement M
 is-bearable-spec =
