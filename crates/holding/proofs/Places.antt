@@ -12,6 +12,8 @@ use Rattle.amount.proofs.Sums.{all-at, all-each}
 use Rattle.types.proofs.Booleans.{by}
 use Rattle.holding.specs.declared.Position.{Position}
 use Rattle.holding.specs.Holding.{isPosition}
+use Rattle.holding.specs.Inner.Sizes.{PositionIn}
+use Rattle.holding.proofs.Holdings.{position-in}
 use Rattle.holding.specs.Rows.{positionOf, isPositionOf, isRow, arePositions}
 
 module _ (qs : List ℤ) (ms : List ℕ) (rs : List ℤ) where
@@ -39,6 +41,9 @@ module _ (qs : List ℤ) (ms : List ℕ) (rs : List ℤ) where
   pub rows-of : RowsIn → arePositions qs ms rs ≡ true
   unfolding arePositions
   rows-of w = rw (w .quantities-long, w .averages-long, w .realized-long) (all-each (isPositionOf qs ms rs) 32 (w .each))
+
+pub held-in : (qs : List ℤ) (ms : List ℕ) (rs : List ℤ) → arePositions qs ms rs ≡ true → (i : ℕ) → i < 32 → PositionIn (positionOf qs ms rs i)
+held-in qs ms rs h i m = position-in (positionOf qs ms rs i) (rows-in qs ms rs h .each i m)
 
 module _ (qs : List ℤ) (ms : List ℕ) (rs : List ℤ) (w : RowsIn qs ms rs) (s : ℕ) (m : s < 32) (p : Position) where
   -- a position that is put in a symbol's places stands there

@@ -5,16 +5,18 @@ use mathlib.Core.Bool.{true, and-eq-true-iff}
 use borrow.Author.Tests.{leb-true}
 use lib.IntN.{natAbs}
 use Rattle.holding.specs.Inner.Sizes.{PositionIn}
+use Rattle.holding.specs.Rows.{arePositions}
 use Rattle.position.specs.Ledger.{positionAt, isLedger, isMoney}
 use Rattle.position.specs.declared.PositionLedger.{PositionLedger}
-use Rattle.holding.proofs.Holdings.{position-in}
 use Rattle.holding.proofs.Places.{RowsIn, rows-in}
+use Rattle.holding.proofs.Places as rows
 
 -- what a ledger has
 pub record LedgerIn (l : PositionLedger) : Type 0 where
   pub cash-in : natAbs (l .cash .value) ≤ 4000000000000000000
   pub commission-in : natAbs (l .commission .value) ≤ 4000000000000000000
   pub paid : isMoney (l .commission .value) ≡ true
+  pub positions : arePositions (l .quantities) (l .averages) (l .realized) ≡ true
   pub rows : RowsIn (l .quantities) (l .averages) (l .realized)
 
 pub ledger-in : (l : PositionLedger) → isLedger l ≡ true → LedgerIn l
@@ -26,8 +28,9 @@ ledger-in l h =
       cash-in = leb-true _ _ (a .0);
       commission-in = leb-true _ _ (b .0);
       paid = b .0;
+      positions = b .1;
       rows = rows-in (l .quantities) (l .averages) (l .realized) (b .1);
     }
 
 pub held-in : (l : PositionLedger) → isLedger l ≡ true → (i : ℕ) → i < 32 → PositionIn (positionAt l i)
-held-in l h i m = position-in (positionAt l i) (ledger-in l h .rows .each i m)
+held-in l h = rows.held-in (l .quantities) (l .averages) (l .realized) (ledger-in l h .positions)

@@ -1,11 +1,11 @@
--- What a position counts for at a price, and the prices given: 32 numbers, 0 for a symbol without a price.
+-- What positions count for at prices. The prices given are 32 numbers, 0 for a symbol without a price.
 use Prim.Native.Nat.{ℕ, _*_}
 use mathlib.Core.Bool.{Bool, true, not, _&&_, cond}
 use mathlib.Core.List.{List}
 use lib.Dec.{ltb, leb, eqb}
 use lib.ListN.{getD, length}
 use lib.IntN.{ℤ, pos, natAbs, _-ℤ_, _*ℤ_}
-use Rattle.amount.specs.Sums.{allTo}
+use Rattle.amount.specs.Sums.{allTo, sumTo, firstTo}
 use Rattle.types.specs.Limits.{symbols, maxPrice}
 use Rattle.holding.specs.declared.Position.{Position}
 use Rattle.pricing.specs.declared.Measure.{Measure}
@@ -25,9 +25,25 @@ measured Worth p price = p .quantity .value *ℤ pos price
 measured Size p price = pos (natAbs (p .quantity .value) * price)
 measured Profit p price = p .quantity .value *ℤ (pos price -ℤ pos (p .average))
 
+-- what the position of a symbol counts for, of those held; without a price its exposure is 0
+abbrev pub measuredAt : Measure → (ℕ → Position) → List ℕ → ℕ → ℤ
+measuredAt m held ps i = measured m (held i) (getD ps i 0)
+
+-- the sum over all symbols
+abbrev pub total : Measure → (ℕ → Position) → List ℕ → ℤ
+total m held ps = sumTo (measuredAt m held ps) symbols
+
 -- an open position, with a price or without one as asked
 abbrev pub isOpen : Bool → Position → ℕ → Bool
 isOpen priced p price = not (eqb (natAbs (p .quantity .value)) 0) && cond (eqb price 0) (not priced) priced
+
+-- the position of a symbol is so, of those held
+abbrev pub isOpenAt : Bool → (ℕ → Position) → List ℕ → ℕ → Bool
+isOpenAt priced held ps i = isOpen priced (held i) (getD ps i 0)
+
+-- the smallest symbol with such a position, or 32
+abbrev pub firstOpen : Bool → (ℕ → Position) → List ℕ → ℕ
+firstOpen priced held ps = firstTo (isOpenAt priced held ps) symbols
 
 -- gross is 0 or 100·|net| < gross, in exact numbers
 abbrev pub isNeutral : ℤ → ℕ → Bool

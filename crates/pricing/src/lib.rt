@@ -9,6 +9,8 @@ use amount::Amount;
 use holding::Position;
 use types::MAX_PRICE;
 
+pub mod rows; // rows.rt: sums and searches over positions in lent rows
+
 // What is summed over the positions.
 pub enum Measure {
     Worth,

@@ -9,6 +9,7 @@ use Rattle.amount.specs.Sums.{sumTo, allTo, firstTo}
 use Rattle.amount.specs.Whole.{amount}
 use Rattle.types.specs.Replies.{done, refused}
 use Rattle.holding.specs.Holding.{isPosition}
+use Rattle.holding.specs.Rows.{arePositions}
 use Rattle.pricing.specs.Prices.{arePrices, isNeutral}
 use Rattle.position.specs.Ledger.{isLedger, fresh}
 use Rattle.position.specs.Examples.{held, two, one, minus}
@@ -26,7 +27,7 @@ pub neutrals :
     × (isNeutral (pos 1) 100 ≡ false)
     × (neutral (fresh (pos 0)) (prices 0 0) ≡ done true)
     × (isNeutral (pos 32000000000000000) 3200000000000000001 ≡ true)
-unfolding neutral allPriced arePrices isLedger isPosition allTo firstTo sumTo
+unfolding neutral allPriced arePrices isLedger arePositions isPosition allTo firstTo sumTo
 neutrals = (refl, refl, refl, refl, refl, refl)
 
 -- 13 names the smallest open symbol without a price; net exposure skips it, and is 10 if none has one
@@ -35,7 +36,7 @@ pub unpriced :
     × (unrealizedTotal (two (pos 5) (held (pos 1) 1) (held (minus 2) 1)) (prices 4 0) ≡ refused 13 (pos 1 ∷ []))
     × (netExposure (two (pos 5) (held (pos 1) 1) (held (minus 2) 1)) (prices 4 0) ≡ done (amount (pos 4)))
     × (netExposure (two (pos 5) (held (pos 1) 1) (held (minus 2) 1)) (prices 0 0) ≡ refused 10 [])
-unfolding liquidation unrealizedTotal netExposure allPriced arePrices isLedger isPosition allTo firstTo sumTo
+unfolding liquidation unrealizedTotal netExposure allPriced arePrices isLedger arePositions isPosition allTo firstTo sumTo
 unpriced = (refl, refl, refl, refl)
 
 -- with all prices: cash and exposures, profits; a symbol never traded is 0; other lengths, symbols and prices are 2
@@ -48,5 +49,5 @@ pub valued :
     × (unrealized (fresh (pos 0)) 0 0 ≡ refused 2 [])
     × (liquidation (fresh (pos 0)) (replicate 31 1) ≡ refused 2 [])
     × (netExposure (fresh (pos 0)) (prices 100000001 0) ≡ refused 2 [])
-unfolding liquidation unrealized unrealizedTotal netExposure allPriced arePrices isLedger isPosition allTo firstTo sumTo
+unfolding liquidation unrealized unrealizedTotal netExposure allPriced arePrices isLedger arePositions isPosition allTo firstTo sumTo
 valued = (refl, refl, refl, refl, refl, refl, refl, refl)

