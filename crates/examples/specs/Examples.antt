@@ -34,6 +34,7 @@ use Rattle.questions.specs.Questions.{weightedMid, imbalance, vwapForQty, price
 use Rattle.questions.specs.Asked.{Value, number, ratio, bookAsk}
 use Rattle.holding.specs.declared.Fill.{Fill}
 use Rattle.holding.specs.Holding.{isPosition, isFill, averageAfter, positionAfter}
+use Rattle.holding.specs.Rows.{arePositions}
 use Rattle.position.specs.Ledger as L
 
 -- what is put: a question to book K, a delta to book K, or fills of symbol 0, one after the other, to a ledger opened with this cash
@@ -151,5 +152,5 @@ pub all-answered : map (λ (e : Example). answered (e .input)) examples ≡ map 
 unfolding examples answered thenFills
     bookAsk vwapForQty priceImpact priceAtVolume weightedMid imbalance vwapOf impactOf volumePriceOf ofBoth over overOrNone sumOf costOf reachFrom
     B.applied B.tried setLevel removeLevel sidesFit wellFormed inOrder leads every bestOf isApart
-    L.created L.booked L.settled L.filled L.isLedger isFill isPosition positionAfter averageAfter allTo
+    L.created L.booked L.settled L.filled L.isLedger arePositions isFill isPosition positionAfter averageAfter allTo
 all-answered = refl

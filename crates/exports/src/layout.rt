@@ -22,14 +22,14 @@ pub extern "C" fn wermazul_layout() -> Layout
     ensures { λ r. ⌜ r ≡ layout ⌝ }
 {
     Layout {
-        version: 2000,
+        version: 3000,
         book: 2072,
-        ledger: 784,
+        ledger: 656,
         held: 2080,
         told: 80,
         counts: 24,
         counts_told: 104,
-        ledger_told: 864,
+        ledger_told: 736,
         turn_told: 112,
         line_told: 2184,
     }

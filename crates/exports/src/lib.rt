@@ -1,6 +1,6 @@
 // What Rust and C link: thin functions on numbers and lent memory, over the library. A book or a receiver is lent as its four rows (bid
-// prices, bid quantities, ask prices, ask quantities) with its counts beside them, and is asked and changed where it stands. An answer comes
-// back as its number and values. Sides, actions, questions, listings and worths are named by their numbers; a number that names none
+// prices, bid quantities, ask prices, ask quantities) with its counts beside them, a ledger as its three (quantities, averages, realized profits)
+// with its totals; each is asked and changed where it stands. An answer comes back as its number and values. Sides, actions, questions, listings and worths are named by their numbers; a number that names none
 // gives 2, after 1 for a record that is none.
 pub mod layout; // layout.rt: the archive's version, and the sizes of the records that cross
 pub mod book; // book.rt: the book, its changes, its questions and its listings
@@ -11,12 +11,20 @@ pub mod receiving; // receiving.rt: the receiver
 use deltas::Counts;
 use orderbook::OrderBook;
 use position::PositionLedger;
+use position::Totals;
 use told::Told;
 
-// A ledger after a call, and the call's answer.
+// A new ledger, and the call's answer.
 #[repr(C)]
 pub struct LedgerTold {
     pub ledger: PositionLedger,
+    pub told: Told,
+}
+
+// The totals beside a ledger's rows after a call, and the call's answer.
+#[repr(C)]
+pub struct TotalsTold {
+    pub totals: Totals,
     pub told: Told,
 }
 

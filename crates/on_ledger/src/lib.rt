@@ -1,11 +1,11 @@
 // The operations on the ledger and the prices.
+use amount::Amount;
 use fields::amount;
 use fields::number;
 use fields::side;
 use fields::small;
 use holding::Fill;
 use position::Booked;
-use position::Position;
 use position::PositionLedger;
 use told::Told;
 use types::Outcome;
@@ -21,12 +21,13 @@ fn changed(b: Booked) -> PositionLedger {
 fn position(ledger: PositionLedger, symbol: u32) {
     let i = symbol as usize;
     if i < SYMBOLS {
-        let p = ledger.positions[i];
-        let quantity = p.quantity;
-        let realized = p.realized;
-        output::amount(quantity);
-        output::value(p.average as u64);
-        output::amount(realized);
+        output::amount(Amount {
+            value: ledger.quantities[i],
+        });
+        output::value(ledger.averages[i] as u64);
+        output::amount(Amount {
+            value: ledger.realized[i],
+        });
     }
 }
 
@@ -68,11 +69,11 @@ fn worth(ledger: PositionLedger, prices: &[u32], line: &[u8]) {
 fn with_position(mut ledger: PositionLedger, line: &[u8]) -> PositionLedger {
     let i = small(line, 1) as usize;
     if i < SYMBOLS {
-        ledger.positions[i] = Position {
-            quantity: amount(line, 2, 3),
-            average: small(line, 4),
-            realized: amount(line, 5, 6),
-        };
+        let lots = amount(line, 2, 3).value;
+        let profit = amount(line, 5, 6).value;
+        ledger.quantities[i] = lots;
+        ledger.averages[i] = small(line, 4);
+        ledger.realized[i] = profit;
         output::number(0);
     } else {
         output::put(b"?");

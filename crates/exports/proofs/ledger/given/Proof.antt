@@ -1,4 +1,4 @@
--- `ledger::given` meets its contract: the outcome is told beside the ledger.
+-- `ledger::given` meets its contract: the outcome is told beside the totals.
 use borrow.Author.Needs.{needs}
 use Rattle.exports.proofs.ledger.given.Statement.{statement}
 use Rattle.exports.proofs.ledger.given.Tie as tie

@@ -1,4 +1,4 @@
--- `ledger::wermazul_apply_fill` meets its contract: the ledger takes the fill if its number names a side.
+-- `ledger::wermazul_apply_fill` meets its contract: the rows take the fill if its number names a side.
 use mathlib.Core.Path.{ap, _∙_}
 use borrow.Author.Tests.{lt-leb, le-leb}
 use mir.ValLaws.{toZ-ofZ}
@@ -13,8 +13,11 @@ wermazul-apply-fill-spec =
     tie.close
     (tie.spec
     (λ c κs. search needs)
-    (λ c. rw (c .unnamed .ensures, lt-leb _ _ (c .before .if1 .taken)))
+    (λ c. rw (c .unnamed .ensures, lt-leb _ _ (c .before .before .before .before .if1 .taken)))
     (λ c κs. search needs)
     (λ c κs. search needs)
     (λ c κs. search needs)
-    (λ c. c .given .ensures ∙ ap ledgerTold (c .before .apply-fill .ensures) ∙ rw (c .before .before .fill-of .ensures, toZ-ofZ _ _ (c .before .before .before .before .fits .commission), le-leb _ _ (c .before .before .before .if1 .left))))
+    (λ c.
+    let f = c .before .before .before .before .before in
+    rw (c .given .ensures)
+    (ap ledgerTold (c .before .apply-fill .ensures) ∙ rw (f .fill-of .ensures, toZ-ofZ _ _ (f .before .before .fits .commission), le-leb _ _ (f .before .if1 .left)))))

@@ -1,4 +1,4 @@
--- `ledger::wermazul_deposit` meets its contract: what the ledger gave back is told.
+-- `ledger::wermazul_deposit` meets its contract: what the deposit left is told.
 use mathlib.Core.Path.{ap, _∙_}
 use mir.ValLaws.{toZ-ofZ}
 use borrow.Author.Needs.{needs}
@@ -12,4 +12,4 @@ wermazul-deposit-spec =
     (tie.spec
     (λ c κs. search needs)
     (λ c κs. search needs)
-    (λ c. c .given .ensures ∙ ap ledgerTold (c .before .deposit .ensures) ∙ rw (toZ-ofZ _ _ (c .before .before .fits .amount))))
+    (λ c. rw (c .given .ensures) (ap ledgerTold (c .before .deposit .ensures) ∙ rw (toZ-ofZ _ _ (c .before .before .fits .amount)))))

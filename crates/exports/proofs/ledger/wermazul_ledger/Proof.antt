@@ -12,4 +12,6 @@ wermazul-ledger-spec =
     (tie.spec
     (λ c κs. search needs)
     (λ c κs. search needs)
-    (λ c. c .given .ensures ∙ ap ledgerTold (c .before .new .ensures) ∙ rw (toZ-ofZ _ _ (c .before .before .fits .cash))))
+    (λ c.
+    let n = c .before .before in
+    rw (c .of-outcome .ensures) (ap ledgerTold (n .new .ensures) ∙ rw (toZ-ofZ _ _ (n .before .fits .cash)))))
