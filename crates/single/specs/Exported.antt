@@ -6,6 +6,8 @@ use denote.Ref.{now}
 use Rattle.types.specs.Written.{Left}
 use Rattle.told.specs.declared.Told.{Told}
 use Rattle.numbered.specs.declared.CountsTold.{CountsTold}
+use Rattle.exports.specs.declared.LedgerTold.{LedgerTold}
+use Rattle.exports.specs.declared.TotalsTold.{TotalsTold}
 use Rattle.exports.specs.declared.TurnTold.{TurnTold}
 use Rattle.numbered.specs.Books.{BookTold}
 use Rattle.exports.specs.Receivers.{HeldTold}
@@ -16,7 +18,8 @@ use Rattle.exports.proofs.feed as F
 use Rattle.exports.proofs.receiving as R
 use Rattle.single.specs.One.{One, OneWith, one}
 use Rattle.orderbook.specs.Lent.{countsIn}
-use Rattle.single.specs.Rows.{Rows, bookOfRows, rowsIn}
+use Rattle.position.specs.Lent.{totalsIn}
+use Rattle.single.specs.Rows.{Rows, bookOfRows, rowsIn, LedgerRows, ledgerOfRows, ledgerRowsIn}
 
 -- an answer in numbers, and the whole of the lent memory
 one-left : (d : Left Told) (x y : Told) (m n : List ℕ) → record { answer = x; memory = m } ≡ d → record { answer = y; memory = n } ≡ d → (x ≡ y) × (m ≡ n)
@@ -44,6 +47,17 @@ one-turned d v w x y p q =
     let n : x .counts ≡ y .counts = ap (λ (h : HeldTold). countsIn (h .receiver .book)) e in
     let t : x .told ≡ y .told = ap (λ (h : HeldTold). h .told) e in
     (λ i. record { state = m i; counts = n i; told = t i }, ap (λ (h : HeldTold). rowsIn (h .receiver .book)) e)
+
+-- a ledger that is lent as its rows, after a change
+abbrev booked : LedgerRows → TotalsTold → LedgerTold
+booked w r = record { ledger = ledgerOfRows w (r .totals); told = r .told }
+
+one-booked : (d : LedgerTold) (v w : LedgerRows) (x y : TotalsTold) → booked v x ≡ d → booked w y ≡ d → (x ≡ y) × (v ≡ w)
+one-booked d v w x y p q =
+    let e : booked v x ≡ booked w y = p ∙ sym q in
+    let n : x .totals ≡ y .totals = ap (λ (l : LedgerTold). totalsIn (l .ledger)) e in
+    let t : x .told ≡ y .told = ap (λ (l : LedgerTold). l .told) e in
+    (λ i. record { totals = n i; told = t i }, ap (λ (l : LedgerTold). ledgerRowsIn (l .ledger)) e)
 
 -- the archive
 module _ where
@@ -76,7 +90,7 @@ module _ where
   pub wermazul-list : OneWith B.wermazul_list.Reads.Learnt (λ κs s. now (s .1 .1 .1 .1 .1 .1 .1 .1 .1 .0))
   wermazul-list κs a s t x y = one-left _ x y _ _
 
--- the ledger
+-- the ledger: of a fill the three rows too
 module _ where
   pub wermazul-ledger : One P.wermazul_ledger.Reads.Learnt
   wermazul-ledger κs a s t = one _
@@ -84,11 +98,11 @@ module _ where
   pub wermazul-is-ledger : One P.wermazul_is_ledger.Reads.Learnt
   wermazul-is-ledger κs a s t = one _
 
-  pub wermazul-apply-fill : One P.wermazul_apply_fill.Reads.Learnt
-  wermazul-apply-fill κs a s t = one _
+  pub wermazul-apply-fill : OneWith P.wermazul_apply_fill.Reads.Learnt {X = LedgerRows} (λ κs s. (now (s .0), now (s .1 .0), now (s .1 .1 .0)))
+  wermazul-apply-fill κs a s t x y = one-booked _ _ _ x y
 
   pub wermazul-deposit : One P.wermazul_deposit.Reads.Learnt
-  wermazul-deposit κs a s t = one _
+  wermazul-deposit κs a s t x y p q = one-booked _ _ _ x y p q .0
 
   pub wermazul-unrealized : One P.wermazul_unrealized.Reads.Learnt
   wermazul-unrealized κs a s t = one _
