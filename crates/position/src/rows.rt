@@ -151,11 +151,14 @@ pub fn deposit<'a>(
         };
     }
     let have = totals.cash;
-    let commission = totals.commission;
-    let cash = have.add(amount);
-    if cash.within(MAX_MONEY) {
+    let paid = totals.commission;
+    let balance = have.add(amount);
+    if balance.within(MAX_MONEY) {
         return RowsBooked {
-            totals: Totals { cash, commission },
+            totals: Totals {
+                cash: balance,
+                commission: paid,
+            },
             outcome: Outcome::Done,
         };
     }
