@@ -186,53 +186,73 @@ static void empty(wermazul_book_record *book)
     tell_book("wermazul_clear", book, after.told);
 }
 
-static void tell_ledger(const char *name, const wermazul_ledger_told *after)
+static wermazul_totals totals_of(const wermazul_ledger_record *ledger)
 {
-    const wermazul_ledger_record *ledger = &after->ledger;
-    printf("%s %" PRId64 " %" PRId64, name, ledger->cash, ledger->commission);
-    for (int i = 0; i < 32; i++) {
-        const wermazul_position *p = &ledger->positions[i];
-        if (p->quantity || p->average || p->realized)
-            printf(" %d:%" PRId64 "@%" PRIu32 "=%" PRId64, i, p->quantity, p->average, p->realized);
-    }
-    printf("\n");
-    tell(name, after->told);
+    wermazul_totals totals = {ledger->cash, ledger->commission};
+    return totals;
 }
 
-static void value(wermazul_ledger_record ledger)
+static void set_totals(wermazul_ledger_record *ledger, wermazul_totals totals)
+{
+    ledger->cash = totals.cash;
+    ledger->commission = totals.commission;
+}
+
+static void tell_ledger(const char *name, const wermazul_ledger_record *ledger, wermazul_told told)
+{
+    printf("%s %" PRId64 " %" PRId64, name, ledger->cash, ledger->commission);
+    for (int i = 0; i < 32; i++) {
+        int64_t quantity = ledger->quantities[i], realized = ledger->realized[i];
+        uint32_t average = ledger->averages[i];
+        if (quantity || average || realized) printf(" %d:%" PRId64 "@%" PRIu32 "=%" PRId64, i, quantity, average, realized);
+    }
+    printf("\n");
+    tell(name, told);
+}
+
+static void value(const wermazul_ledger_record *ledger)
 {
     uint32_t prices[33];
     for (int i = 0; i < 33; i++) prices[i] = below(5) ? 1 + (uint32_t)below(500) : 0;
     if (below(9) == 0) prices[7] = (uint32_t)number(500);
     uint64_t symbol = below(9) ? number(5) : 30 + below(4), price = number(500), length = below(9) ? 32 : below(34);
-    printf("wermazul_is_ledger %d\n", wermazul_is_ledger(ledger));
-    tell("wermazul_unrealized", wermazul_unrealized(ledger, (uint32_t)symbol, (uint32_t)price));
-    for (uint64_t worth = 0; worth < 5; worth++) tell("wermazul_worth", wermazul_worth(ledger, worth, prices, length));
+    wermazul_totals totals = totals_of(ledger);
+    printf("wermazul_is_ledger %d\n", wermazul_is_ledger(WERMAZUL_LEDGER_ROWS(*ledger), totals));
+    tell("wermazul_unrealized",
+         wermazul_unrealized(WERMAZUL_LEDGER_ROWS(*ledger), totals, (uint32_t)symbol, (uint32_t)price));
+    for (uint64_t worth = 0; worth < 5; worth++)
+        tell("wermazul_worth", wermazul_worth(WERMAZUL_LEDGER_ROWS(*ledger), totals, worth, prices, length));
 }
 
-static wermazul_ledger_record filled(wermazul_ledger_record ledger)
+static void fill(wermazul_ledger_record *ledger)
 {
     uint64_t symbol = number(4), side = below(40) ? below(2) : 2, quantity = number(100), price = number(500);
     uint64_t commission = below(9) ? below(50) - 10 : number(0);
-    wermazul_ledger_told after =
-        wermazul_apply_fill(ledger, (uint32_t)symbol, side, (uint32_t)quantity, (uint32_t)price, (int64_t)commission);
-    tell_ledger("wermazul_apply_fill", &after);
-    return after.ledger;
+    wermazul_totals_told after = wermazul_apply_fill(
+        WERMAZUL_LEDGER_ROWS(*ledger), totals_of(ledger), (uint32_t)symbol, side, (uint32_t)quantity, (uint32_t)price, (int64_t)commission);
+    set_totals(ledger, after.totals);
+    tell_ledger("wermazul_apply_fill", ledger, after.told);
+}
+
+static void deposit(wermazul_ledger_record *ledger)
+{
+    int64_t amount = (int64_t)(number(1000000) - 300000);
+    wermazul_totals_told after = wermazul_deposit(WERMAZUL_LEDGER_ROWS(*ledger), totals_of(ledger), amount);
+    set_totals(ledger, after.totals);
+    tell_ledger("wermazul_deposit", ledger, after.told);
 }
 
 /* A ledger's history, with deposits and questions between, and at times a number replaced. */
 static void account(void)
 {
-    wermazul_ledger_told held = wermazul_ledger((int64_t)number(100000000));
-    tell_ledger("wermazul_ledger", &held);
+    wermazul_ledger_told made = wermazul_ledger((int64_t)number(100000000));
+    wermazul_ledger_record ledger = made.ledger;
+    tell_ledger("wermazul_ledger", &ledger, made.told);
     for (uint64_t left = below(60); left > 0; left--) {
-        held.ledger = filled(held.ledger);
-        if (below(8) == 0) {
-            held = wermazul_deposit(held.ledger, (int64_t)(number(1000000) - 300000));
-            tell_ledger("wermazul_deposit", &held);
-        }
-        if (below(90) == 0) held.ledger.positions[5].average ^= 3;
-        if (below(4) == 0) value(held.ledger);
+        fill(&ledger);
+        if (below(8) == 0) deposit(&ledger);
+        if (below(90) == 0) ledger.averages[5] ^= 3;
+        if (below(4) == 0) value(&ledger);
     }
 }
 

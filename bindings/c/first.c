@@ -44,7 +44,7 @@ static void archive(void)
     expect("its answer", there.told == sizeof(wermazul_told));
     expect("its counts", there.counts == sizeof(wermazul_counts));
     expect("its counts after a call", there.counts_told == sizeof(wermazul_counts_told));
-    expect("its ledger after a call", there.ledger_told == sizeof(wermazul_ledger_told));
+    expect("its new ledger", there.ledger_told == sizeof(wermazul_ledger_told));
     expect("its receiver after a line", there.turn_told == sizeof(wermazul_turn_told));
     expect("its line", there.line_told == sizeof(wermazul_line_told));
 }
@@ -55,8 +55,9 @@ static void layouts(void)
     expect("answers", sizeof(wermazul_whole) == 16 && sizeof(wermazul_told) == 80 && offsetof(wermazul_told, values) == 16);
     expect("books", sizeof(wermazul_levels) == 1032 && sizeof(wermazul_book_record) == 2072);
     expect("counts", sizeof(wermazul_counts) == 24 && sizeof(wermazul_counts_told) == 104);
-    expect("positions", sizeof(wermazul_position) == 24 && offsetof(wermazul_position, realized) == 16);
-    expect("ledgers", sizeof(wermazul_ledger_record) == 784 && sizeof(wermazul_ledger_told) == 864);
+    expect("totals", sizeof(wermazul_totals) == 16 && sizeof(wermazul_totals_told) == 96);
+    expect("ledgers", sizeof(wermazul_ledger_record) == 656 && sizeof(wermazul_ledger_told) == 736);
+    expect("rows", offsetof(wermazul_ledger_record, averages) == 272 && offsetof(wermazul_ledger_record, realized) == 400);
     expect("lines", sizeof(wermazul_line_told) == 2184 && offsetof(wermazul_line_told, sequence) == 104);
     expect("receivers", sizeof(wermazul_held) == 2080 && sizeof(wermazul_turn_told) == 112);
 }
@@ -149,22 +150,67 @@ static void emptied(wermazul_book_record k)
     expect("from the start", same_counts(next.counts, none));
 }
 
-static void ledgers(void)
+static wermazul_totals totals_of(const wermazul_ledger_record *ledger)
 {
-    uint32_t prices[32] = {90};
-    wermazul_ledger_told l = wermazul_ledger(10000);
-    l = wermazul_apply_fill(l.ledger, 0, 0, 3, 100, 2);
-    l = wermazul_apply_fill(l.ledger, 0, 0, 2, 101, 0);
-    l = wermazul_apply_fill(l.ledger, 0, 1, 4, 110, 1);
-    l = wermazul_apply_fill(l.ledger, 0, 1, 3, 90, 0);
-    wermazul_position p = l.ledger.positions[0];
-    hold("fills", l.told, 0, 0, 0, 0);
-    expect("the longer cash example", l.ledger.cash == 10205 && p.quantity == -2 && p.average == 90 && p.realized == 27);
-    hold("short of cash", wermazul_apply_fill(wermazul_ledger(-5).ledger, 0, 0, 1, 99, -7).told, 8, 2, 92, -5);
-    hold("unrealized", wermazul_unrealized(l.ledger, 0, 100), 0, 1, -20, 0);
-    hold("net_liquidation_value", wermazul_worth(l.ledger, 1, prices, 32), 0, 1, 10025, 0);
-    hold("31 prices", wermazul_worth(l.ledger, 1, prices, 31), 2, 0, 0, 0);
-    expect("deposit", wermazul_deposit(l.ledger, -205).ledger.cash == 10000 && wermazul_is_ledger(l.ledger));
+    wermazul_totals totals = {ledger->cash, ledger->commission};
+    return totals;
+}
+
+static bool same_totals(wermazul_totals a, wermazul_totals b)
+{
+    return a.cash == b.cash && a.commission == b.commission;
+}
+
+/* The longer worked example of cash, of symbol 31. */
+static wermazul_ledger_record traded(void)
+{
+    static const uint32_t fills[4][4] = {{0, 3, 100, 2}, {0, 2, 101, 0}, {1, 4, 110, 1}, {1, 3, 90, 0}};
+    wermazul_ledger_told made = wermazul_ledger(10000);
+    wermazul_ledger_record ledger = made.ledger;
+    hold("a ledger", made.told, 0, 0, 0, 0);
+    for (int i = 0; i < 4; i++) {
+        wermazul_totals_told next = wermazul_apply_fill(
+            WERMAZUL_LEDGER_ROWS(ledger), totals_of(&ledger), 31, fills[i][0], fills[i][1], fills[i][2], fills[i][3]);
+        hold("a fill", next.told, 0, 0, 0, 0);
+        ledger.cash = next.totals.cash;
+        ledger.commission = next.totals.commission;
+    }
+    return ledger;
+}
+
+static void ledgers(wermazul_ledger_record l)
+{
+    uint32_t prices[32] = {0};
+    wermazul_totals totals = totals_of(&l), more = {10000, 3};
+    expect("its totals", l.cash == 10205 && l.commission == 3);
+    expect("its position", l.quantities[31] == -2 && l.averages[31] == 90 && l.realized[31] == 27);
+    expect("the others", l.quantities[30] == 0 && l.averages[30] == 0 && l.realized[30] == 0);
+    prices[31] = 90;
+    hold("unrealized", wermazul_unrealized(WERMAZUL_LEDGER_ROWS(l), totals, 31, 100), 0, 1, -20, 0);
+    hold("net_liquidation_value", wermazul_worth(WERMAZUL_LEDGER_ROWS(l), totals, 1, prices, 32), 0, 1, 10025, 0);
+    hold("31 prices", wermazul_worth(WERMAZUL_LEDGER_ROWS(l), totals, 1, prices, 31), 2, 0, 0, 0);
+    wermazul_totals_told next = wermazul_deposit(WERMAZUL_LEDGER_ROWS(l), totals, -205);
+    hold("deposit", next.told, 0, 0, 0, 0);
+    expect("deposited", same_totals(next.totals, more) && wermazul_is_ledger(WERMAZUL_LEDGER_ROWS(l), next.totals));
+}
+
+/* A refusal leaves every row as it was, and gives back the totals that were handed in. */
+static void refused(wermazul_ledger_record l)
+{
+    static const wermazul_totals owing = {-5, 3}, wrong = {INT64_MIN, 3};
+    wermazul_ledger_record before = l;
+    hold("too much cash", wermazul_ledger(INT64_MAX).told, 2, 0, 0, 0);
+    wermazul_totals_told next = wermazul_apply_fill(WERMAZUL_LEDGER_ROWS(l), owing, 31, 0, 1, 99, -7);
+    hold("short of cash", next.told, 8, 2, 92, -5);
+    expect("its totals", same_totals(next.totals, owing));
+    next = wermazul_apply_fill(WERMAZUL_LEDGER_ROWS(l), owing, 32, 1, 1, 99, 0);
+    hold("no symbol", next.told, 2, 0, 0, 0);
+    expect("its totals", same_totals(next.totals, owing));
+    hold("no side", wermazul_apply_fill(WERMAZUL_LEDGER_ROWS(l), owing, 31, 2, 1, 99, 0).told, 2, 0, 0, 0);
+    next = wermazul_deposit(WERMAZUL_LEDGER_ROWS(l), wrong, 1);
+    hold("no ledger", next.told, 1, 0, 0, 0);
+    expect("no ledger's totals", same_totals(next.totals, wrong) && !wermazul_is_ledger(WERMAZUL_LEDGER_ROWS(l), wrong));
+    expect("as it was", memcmp(&l, &before, sizeof l) == 0);
 }
 
 static void lines(wermazul_book_record k)
@@ -224,7 +270,9 @@ int main(void)
     deltas(k);
     books(k);
     emptied(k);
-    ledgers();
+    wermazul_ledger_record l = traded();
+    ledgers(l);
+    refused(l);
     lines(k);
     receivers(k);
     printf("%d answers held\n", asked);

@@ -1,8 +1,8 @@
 /* The proved library for C and C++, on x86-64 and aarch64 Linux: link the archive whose path `bindings/archive` prints, or that `bindings/install`
    puts beside this header. Ask wermazul_matches(), at the end, once at the start of a program.
 
-   A book or a receiver is lent as its four rows with its counts beside them, and is asked and changed where it stands; a ledger goes by value
-   and comes back. Any record may be handed in, and each call tests it first.
+   A book or a receiver is lent as its four rows with its counts beside them, a ledger as its three rows with its totals beside them, and each is
+   asked and changed where it stands. Any record may be handed in, and each call tests it first.
 
    An answer is a number of docs/ANSWERS.md, 0 or a refusal, with the count of its values and up to four of them; those behind the count are 0. Sides
    are 0 bid and 1 ask, actions 0 Set and 1 Remove; a number that names nothing gives 2, after 1 for a record that is none. docs/PROMISES.md
@@ -10,11 +10,13 @@
 
    What the caller must keep, since no call can test it:
    - No pointer may be null: no row's, and no slice's, not even with a length of 0.
-   - A row has 128 places. A slice is a pointer and a length, counted in elements and not in bytes: numbers of 32 bits for listings and prices,
-     bytes for lines. All places of the length are there.
-   - A pointer is aligned as C aligns what it points to: 4 bytes for numbers of 32 bits. A record that is declared is aligned right.
+   - A row of a book has 128 places, a row of a ledger 32. A slice is a pointer and a length, counted in elements and not in bytes: numbers of
+     32 bits for listings and prices, bytes for lines. All places of the length are there.
+   - A pointer is aligned as C aligns what it points to: 4 bytes for numbers of 32 bits, 8 bytes for numbers of 64 bits. A record that is declared
+     is aligned right.
    - What a call writes to, a row or a buffer, overlaps nothing else that it is lent, and no other thread uses it meanwhile.
-   wermazul_matches() compares the version and the sizes of the records with the archive's; nothing compares the functions' own types. */
+   wermazul_matches() compares the version with the archive's, and the sizes of the records that wermazul_layout tells; nothing compares the
+   functions' own types. */
 #ifndef WERMAZUL_H
 #define WERMAZUL_H
 
@@ -38,7 +40,7 @@ typedef struct { wermazul_levels bids, asks; uint64_t sequence; } wermazul_book_
 typedef struct { uint64_t bids, asks, sequence; } wermazul_counts;
 typedef struct { wermazul_counts counts; wermazul_told told; } wermazul_counts_told;
 
-/* The rows of a record, as the calls below take them. */
+/* The rows of a book, as the calls below take them. */
 #define WERMAZUL_ROWS(book) (book).bids.prices, (book).bids.quantities, (book).asks.prices, (book).asks.quantities
 
 wermazul_book_record wermazul_book(void);
@@ -75,19 +77,42 @@ wermazul_told wermazul_list(
     const wermazul_row bid_prices, const wermazul_row bid_quantities, const wermazul_row ask_prices, const wermazul_row ask_quantities,
     wermazul_counts counts, uint64_t listing, uint64_t side, uint64_t from, uint32_t to, uint32_t *out, size_t length);
 
-/* The ledger. Prices are 32 numbers, 0 for none. A worth: 0 unrealized_pnl_total, 1 net_liquidation_value, 2 net_market_exposure,
-   3 delta_neutral_check. */
-typedef struct { int64_t quantity; uint32_t average; int64_t realized; } wermazul_position;
-typedef struct { int64_t cash, commission; wermazul_position positions[32]; } wermazul_ledger_record;
+/* The ledger: cash and the commission paid so far, and three rows with a place for each of 32 symbols: lots, negative if short; their average
+   price, 0 where there are none; and the profit realized so far. */
+typedef int64_t wermazul_amounts[32];
+typedef uint32_t wermazul_averages[32];
+typedef struct {
+    int64_t cash, commission;
+    wermazul_amounts quantities;
+    wermazul_averages averages;
+    wermazul_amounts realized;
+} wermazul_ledger_record;
 typedef struct { wermazul_ledger_record ledger; wermazul_told told; } wermazul_ledger_told;
 
+/* What stands beside the rows. The totals that a call gives back belong to the rows from then on; a refusal gives back those that were handed
+   in, and leaves the rows alone. */
+typedef struct { int64_t cash, commission; } wermazul_totals;
+typedef struct { wermazul_totals totals; wermazul_told told; } wermazul_totals_told;
+
+/* The rows of a ledger, as the calls below take them. */
+#define WERMAZUL_LEDGER_ROWS(ledger) (ledger).quantities, (ledger).averages, (ledger).realized
+
+/* Prices are 32 numbers, 0 for none. A worth: 0 unrealized_pnl_total, 1 net_liquidation_value, 2 net_market_exposure, 3 delta_neutral_check. */
 wermazul_ledger_told wermazul_ledger(int64_t cash);
-bool wermazul_is_ledger(wermazul_ledger_record ledger);
-wermazul_ledger_told wermazul_apply_fill(
-    wermazul_ledger_record ledger, uint32_t symbol, uint64_t side, uint32_t quantity, uint32_t price, int64_t commission);
-wermazul_ledger_told wermazul_deposit(wermazul_ledger_record ledger, int64_t amount);
-wermazul_told wermazul_unrealized(wermazul_ledger_record ledger, uint32_t symbol, uint32_t price);
-wermazul_told wermazul_worth(wermazul_ledger_record ledger, uint64_t worth, const uint32_t *prices, size_t length);
+bool wermazul_is_ledger(
+    const wermazul_amounts quantities, const wermazul_averages averages, const wermazul_amounts realized, wermazul_totals totals);
+wermazul_totals_told wermazul_apply_fill(
+    wermazul_amounts quantities, wermazul_averages averages, wermazul_amounts realized, wermazul_totals totals,
+    uint32_t symbol, uint64_t side, uint32_t quantity, uint32_t price, int64_t commission);
+wermazul_totals_told wermazul_deposit(
+    const wermazul_amounts quantities, const wermazul_averages averages, const wermazul_amounts realized, wermazul_totals totals,
+    int64_t amount);
+wermazul_told wermazul_unrealized(
+    const wermazul_amounts quantities, const wermazul_averages averages, const wermazul_amounts realized, wermazul_totals totals,
+    uint32_t symbol, uint32_t price);
+wermazul_told wermazul_worth(
+    const wermazul_amounts quantities, const wermazul_averages averages, const wermazul_amounts realized, wermazul_totals totals,
+    uint64_t worth, const uint32_t *prices, size_t length);
 
 /* Lines, their line feed included. A line is told as 0 and its kind, 1 a delta and 2 a snapshot, or as 12. A delta's numbers and a snapshot's
    book stand behind that; what the line does not have is 0 or empty. */
@@ -137,12 +162,12 @@ wermazul_layout_record wermazul_layout(void);
 }
 #endif
 
-/* The version of this header, as wermazul_layout() tells the archive's: 0.2.0. */
+/* The version of this header, as wermazul_layout() tells the archive's: 0.3.0. */
 #ifndef WERMAZUL_VERSION
-#define WERMAZUL_VERSION 2000
+#define WERMAZUL_VERSION 3000
 #endif
 
-/* Whether the archive that is linked is of this header's version, and its records are as large as those declared here. */
+/* Whether the archive that is linked is of this header's version, and the records that it tells of are as large as those declared here. */
 static inline bool wermazul_matches(void)
 {
     wermazul_layout_record there = wermazul_layout();
