@@ -73,8 +73,9 @@ fn link(archive: &Path, out: &Path) {
     }
     if !bytes.windows(SINCE_0_2_0.len()).any(|it| it == SINCE_0_2_0) {
         stop(&format!(
-            "the archive {} is older than 0.2.0, which this crate needs: build it again with bindings/archive.",
-            archive.display()
+            "the archive {} is older than 0.2.0, and this crate needs {}: build it again with bindings/archive.",
+            archive.display(),
+            env!("CARGO_PKG_VERSION")
         ));
     }
     if let Err(error) = std::fs::write(out.join("libexports.a"), bytes) {

@@ -1,11 +1,11 @@
-//! The functions of the archive as it exports them, and the records that only they speak of. Of these declarations only the sizes of
-//! records are held to the archive: see README.md, "What crosses the boundary unchecked". That they are the archive's is what every
-//! SAFETY line takes for granted.
+//! The functions of the archive as it exports them, and the records that only they speak of. Of these declarations only the sizes of the
+//! records that `Layout` names are held to the archive: see README.md, "What crosses the boundary unchecked". That they are the archive's
+//! is what every SAFETY line takes for granted.
 use crate::orderbook::OrderBook;
 use crate::position::PositionLedger;
 use crate::receiver::Receiver;
 use crate::told::Told;
-use crate::types::MAX_LEVELS;
+use crate::types::{MAX_LEVELS, SYMBOLS};
 
 #[cfg(test)]
 mod layout;
@@ -25,6 +25,21 @@ pub(crate) struct CountsTold {
     pub told: Told,
 }
 
+/// What stands beside a ledger's rows where it is lent as these.
+#[repr(C)]
+#[derive(Clone, Copy)]
+pub(crate) struct Totals {
+    pub cash: i64,
+    pub commission: i64,
+}
+
+#[repr(C)]
+pub(crate) struct TotalsTold {
+    pub totals: Totals,
+    pub told: Told,
+}
+
+/// A new ledger.
 #[repr(C)]
 pub(crate) struct LedgerTold {
     pub ledger: PositionLedger,
@@ -49,7 +64,7 @@ pub(crate) struct LineTold {
     pub book: OrderBook,
 }
 
-/// Which archive this is: its version, as major times 1,000,000, minor times 1,000 and patch, and the bytes of each record that crosses.
+/// Which archive this is: its version, as major times 1,000,000, minor times 1,000 and patch, and the bytes of each record named here.
 /// This record keeps its own shape from version to version, so that any crate can ask any archive.
 #[repr(C)]
 #[derive(Clone, Copy, Debug, PartialEq, Eq)]
@@ -68,6 +83,12 @@ pub(crate) struct Layout {
 
 /// The prices or the quantities of a side: a row of a book.
 pub(crate) type Row = [u32; MAX_LEVELS];
+
+/// The lots or the realized profits of all symbols: a row of a ledger.
+pub(crate) type Amounts = [i64; SYMBOLS];
+
+/// The average prices of all symbols: a row of a ledger.
+pub(crate) type Averages = [u32; SYMBOLS];
 
 extern "C" {
     pub(crate) fn wermazul_layout() -> Layout;
@@ -145,18 +166,43 @@ extern "C" {
     ) -> Told;
 
     pub(crate) fn wermazul_ledger(cash: i64) -> LedgerTold;
-    pub(crate) fn wermazul_is_ledger(ledger: PositionLedger) -> u8;
+    pub(crate) fn wermazul_is_ledger(quantities: *const Amounts, averages: *const Averages, realized: *const Amounts, totals: Totals)
+        -> u8;
     pub(crate) fn wermazul_apply_fill(
-        ledger: PositionLedger,
+        quantities: *mut Amounts,
+        averages: *mut Averages,
+        realized: *mut Amounts,
+        totals: Totals,
         symbol: u32,
         side: u64,
         quantity: u32,
         price: u32,
         commission: i64,
-    ) -> LedgerTold;
-    pub(crate) fn wermazul_deposit(ledger: PositionLedger, amount: i64) -> LedgerTold;
-    pub(crate) fn wermazul_unrealized(ledger: PositionLedger, symbol: u32, price: u32) -> Told;
-    pub(crate) fn wermazul_worth(ledger: PositionLedger, worth: u64, prices: *const u32, prices_len: usize) -> Told;
+    ) -> TotalsTold;
+    pub(crate) fn wermazul_deposit(
+        quantities: *const Amounts,
+        averages: *const Averages,
+        realized: *const Amounts,
+        totals: Totals,
+        amount: i64,
+    ) -> TotalsTold;
+    pub(crate) fn wermazul_unrealized(
+        quantities: *const Amounts,
+        averages: *const Averages,
+        realized: *const Amounts,
+        totals: Totals,
+        symbol: u32,
+        price: u32,
+    ) -> Told;
+    pub(crate) fn wermazul_worth(
+        quantities: *const Amounts,
+        averages: *const Averages,
+        realized: *const Amounts,
+        totals: Totals,
+        worth: u64,
+        prices: *const u32,
+        prices_len: usize,
+    ) -> Told;
 
     pub(crate) fn wermazul_line_kind(line: *const u8, line_len: usize) -> Told;
     pub(crate) fn wermazul_read_line(line: *const u8, line_len: usize) -> LineTold;

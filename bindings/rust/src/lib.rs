@@ -1,9 +1,9 @@
 //! A proved order book, position ledger and market-feed receiver, for Rust.
 //!
 //! The work is done by an archive of functions that are written and proved in Rattle; this crate declares them and gives them the types
-//! and names of the Rust modules that they were ported from. A book or a receiver is asked and changed where it stands; a ledger goes in
-//! by value and comes back. A refused call leaves the record as it was, but for a receiver that waits from a gap on. Prices, quantities and
-//! money are whole numbers, quotients are exact, and every refusal has a number ([`Error`]).
+//! and names of the Rust modules that they were ported from. A book, a ledger or a receiver is asked and changed where it stands. A refused
+//! call leaves the record as it was, but for a receiver that waits from a gap on. Prices, quantities and money are whole numbers, quotients
+//! are exact, and every refusal has a number ([`Error`]).
 //!
 //! The modules [`orderbook`], [`position`], [`types`] and [`error`] hold what the original has in modules of these names; [`feed`] and
 //! [`receiver`] are added. Everything can be named at the root too.

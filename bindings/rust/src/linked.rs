@@ -1,5 +1,5 @@
 //! Which archive is linked, held against this crate: another version, or a record of another size, would be undefined behaviour at the
-//! first call that hands one over.
+//! first call that hands one over or is lent its rows.
 use crate::ffi::{wermazul_layout, Counts, CountsTold, Layout, LedgerTold, LineTold, TurnTold};
 use crate::orderbook::OrderBook;
 use crate::position::PositionLedger;

@@ -44,8 +44,7 @@ pub enum PositionDirection {
     Flat,
 }
 
-/// What is held of one symbol.
-#[repr(C)]
+/// What is held of one symbol: its place in each row of a ledger.
 #[derive(Clone, Copy, Debug, Default, PartialEq, Eq)]
 pub struct Position {
     /// Lots, negative if short, within 10^9 of 0.
@@ -56,62 +55,82 @@ pub struct Position {
     pub realized: i64,
 }
 
-/// Cash and one position a symbol. Any record may be made and asked: every call tests it, and refuses one that is no ledger with 1.
+/// Cash, and one position a symbol: the place of its number in each of three rows. Any record may be made and asked: every call tests it,
+/// and refuses one that is no ledger with 1.
 #[repr(C)]
 #[derive(Clone, Debug, PartialEq, Eq)]
 pub struct PositionLedger {
     /// Within 4·10^18 of 0.
     pub cash: i64,
-    /// The commission paid so far.
+    /// The commission paid so far, within 4·10^18 of 0.
     pub commission: i64,
-    /// A position for each symbol.
-    pub positions: [Position; SYMBOLS],
+    /// The lots of each symbol, negative if short, within 10^9 of 0.
+    pub quantities: [i64; SYMBOLS],
+    /// Their average price, rounded down; 0 exactly if there are none.
+    pub averages: [Price; SYMBOLS],
+    /// The profit that each symbol has realized so far, commissions taken off, within 4·10^18 of 0.
+    pub realized: [i64; SYMBOLS],
 }
 
 impl PositionLedger {
     /// A ledger with this cash and nothing else; 2 if the cash is outside its limit.
     pub fn new(initial_cash: i64) -> Result<PositionLedger, Error> {
         require_ours();
-        // SAFETY: all goes over by value, and any number is taken.
+        // SAFETY: a number goes over, and the record comes back by value.
         let made = unsafe { ffi::wermazul_ledger(initial_cash) };
         made.told.done().map(|()| made.ledger)
     }
 
     /// Whether the record is a ledger.
     pub fn is_ledger(&self) -> bool {
-        // SAFETY: all goes over by value, and any record and number is taken.
-        unsafe { ffi::wermazul_is_ledger(self.clone()) != 0 }
+        let PositionLedger { quantities, averages, realized, .. } = self;
+        // SAFETY: the rows are three fields of one record, of 32 places each, lent for the call.
+        unsafe { ffi::wermazul_is_ledger(quantities, averages, realized, self.totals()) != 0 }
     }
 
-    fn become_told(&mut self, after: ffi::LedgerTold) -> Result<(), Error> {
-        *self = after.ledger;
+    fn totals(&self) -> ffi::Totals {
+        ffi::Totals { cash: self.cash, commission: self.commission }
+    }
+
+    /// What a call left beside the rows, and its answer.
+    fn become_told(&mut self, after: ffi::TotalsTold) -> Result<(), Error> {
+        self.cash = after.totals.cash;
+        self.commission = after.totals.commission;
         after.told.done()
     }
 
-    /// Books a fill. A refused one leaves the ledger as it was.
+    /// Books a fill, where the ledger stands. A refused one leaves it as it was.
     pub fn apply_fill(&mut self, fill: Fill) -> Result<(), Error> {
         let Fill { symbol, side, quantity, price, commission } = fill;
-        // SAFETY: all goes over by value, and any record and number is taken.
-        self.become_told(unsafe { ffi::wermazul_apply_fill(self.clone(), symbol, side as u64, quantity, price, commission) })
+        let totals = self.totals();
+        let PositionLedger { quantities, averages, realized, .. } = self;
+        // SAFETY: the rows are three fields of one record, of 32 places each, lent to this call alone.
+        let after =
+            unsafe { ffi::wermazul_apply_fill(quantities, averages, realized, totals, symbol, side as u64, quantity, price, commission) };
+        self.become_told(after)
     }
 
-    /// Pays cash in, or out if the amount is negative.
+    /// Pays cash in, or out if the amount is negative. A refused deposit leaves the ledger as it was.
     pub fn deposit(&mut self, amount: i64) -> Result<(), Error> {
-        // SAFETY: all goes over by value, and any record and number is taken.
-        self.become_told(unsafe { ffi::wermazul_deposit(self.clone(), amount) })
+        let PositionLedger { quantities, averages, realized, .. } = &*self;
+        // SAFETY: the rows are three fields of one record, of 32 places each, lent for the call.
+        let after = unsafe { ffi::wermazul_deposit(quantities, averages, realized, self.totals(), amount) };
+        self.become_told(after)
     }
 
     /// The unrealized profit of one symbol at a price.
     pub fn checked_unrealized_pnl(&self, symbol: Symbol, current_price: Price) -> Result<i64, Error> {
-        // SAFETY: all goes over by value, and any record and number is taken.
-        let told = unsafe { ffi::wermazul_unrealized(self.clone(), symbol, current_price) };
+        let PositionLedger { quantities, averages, realized, .. } = self;
+        // SAFETY: the rows are three fields of one record, of 32 places each, lent for the call.
+        let told = unsafe { ffi::wermazul_unrealized(quantities, averages, realized, self.totals(), symbol, current_price) };
         told.values().map(|[amount]| amount.signed())
     }
 
     /// One of the four worths at prices, by its number.
     fn worth(&self, worth: u64, prices: &[Price]) -> Result<i64, Error> {
-        // SAFETY: the record goes over by value; pointer and length are those of one slice, which is lent for the call.
-        let told = unsafe { ffi::wermazul_worth(self.clone(), worth, prices.as_ptr(), prices.len()) };
+        let PositionLedger { quantities, averages, realized, .. } = self;
+        // SAFETY: the rows are three fields of one record, of 32 places each, and the prices are one slice, all lent for the call.
+        let told = unsafe { ffi::wermazul_worth(quantities, averages, realized, self.totals(), worth, prices.as_ptr(), prices.len()) };
         told.values().map(|[amount]| amount.signed())
     }
 

@@ -24,8 +24,8 @@ fn prices(given: &[(usize, u32)]) -> [u32; SYMBOLS] {
 
 #[test]
 fn new_ledgers() {
-    let flat = [Position::default(); SYMBOLS];
-    assert_eq!(PositionLedger::new(-7), Ok(PositionLedger { cash: -7, commission: 0, positions: flat }));
+    let flat = PositionLedger { cash: -7, commission: 0, quantities: [0; SYMBOLS], averages: [0; SYMBOLS], realized: [0; SYMBOLS] };
+    assert_eq!(PositionLedger::new(-7), Ok(flat));
     let most = 4_000_000_000_000_000_000;
     assert_eq!(PositionLedger::new(most).map(|l| l.cash), Ok(most));
     assert_eq!(PositionLedger::new(most + 1), Err(Error::OutOfLimits));
@@ -41,8 +41,25 @@ fn four_fills() {
         ledger.apply_fill(fill).unwrap();
     }
     assert_eq!((ledger.cash, ledger.commission), (10205, 3));
-    assert_eq!(ledger.positions[31], Position { quantity: -2, average: 90, realized: 27 });
-    assert!(ledger.positions[..31].iter().all(|p| *p == Position::default()));
+    assert_eq!((ledger.quantities[31], ledger.averages[31], ledger.realized[31]), (-2, 90, 27));
+    assert!(ledger.positions().take(31).all(|(_, held)| held == Position::default()));
+}
+
+/// A fill goes to its own symbol's place of each row, and no other place moves.
+#[test]
+fn each_symbol_has_its_place() {
+    let mut ledger = PositionLedger::new(1_000_000).unwrap();
+    let mut expected = ledger.clone();
+    for symbol in 0..SYMBOLS {
+        let (lots, price) = (1 + symbol as u32, 100 + symbol as u32);
+        ledger.apply_fill(fill(symbol as u32, Side::Bid, lots, price, 7 * i64::from(lots))).unwrap();
+        expected.quantities[symbol] = lots.into();
+        expected.averages[symbol] = price;
+        expected.realized[symbol] = -7 * i64::from(lots);
+        expected.commission += 7 * i64::from(lots);
+        expected.cash -= i64::from(lots * price) + 7 * i64::from(lots);
+        assert_eq!(ledger, expected);
+    }
 }
 
 #[test]
@@ -130,9 +147,9 @@ fn malformed_records_are_refused_everywhere() {
     let spoil: [fn(&mut PositionLedger); 5] = [
         |l| l.cash = 4_000_000_000_000_000_001,
         |l| l.commission = i64::MIN,
-        |l| l.positions[31].average = 1,
-        |l| l.positions[0].quantity = 1,
-        |l| l.positions[31].realized = -4_000_000_000_000_000_001,
+        |l| l.averages[31] = 1,
+        |l| l.quantities[0] = 1,
+        |l| l.realized[31] = -4_000_000_000_000_000_001,
     ];
     for spoil in spoil {
         let mut ledger = PositionLedger::new(1).unwrap();

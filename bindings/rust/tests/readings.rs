@@ -36,10 +36,10 @@ fn positions_by_symbol() {
     let ledger = ledger();
     let long = Position { quantity: 3, average: 100, realized: -4 };
     let short = Position { quantity: -2, average: 50, realized: -1 };
-    assert_eq!((ledger.position(2), ledger.position(30)), (Some(&long), Some(&short)));
+    assert_eq!((ledger.position(2), ledger.position(30)), (Some(long), Some(short)));
     assert_eq!(
         (ledger.position(7), ledger.position(31)),
-        (Some(&Position { realized: 2, ..Position::default() }), Some(&Position::default()))
+        (Some(Position { realized: 2, ..Position::default() }), Some(Position::default()))
     );
     assert_eq!((ledger.position(32), ledger.position(u32::MAX)), (None, None));
     assert_eq!([2, 30, 7, 31, 32].map(|it| ledger.realized_pnl(it)), [Some(-4), Some(-1), Some(2), Some(0), None]);
@@ -52,7 +52,7 @@ fn positions_in_order() {
     let all: Vec<_> = ledger.positions().collect();
     assert_eq!((all.len(), all[0].0, all[31].0), (SYMBOLS, 0, 31));
     assert!(all.iter().all(|(symbol, it)| ledger.position(*symbol) == Some(*it)));
-    let symbols = |these: Vec<(u32, &Position)>| these.into_iter().map(|(symbol, _)| symbol).collect::<Vec<_>>();
+    let symbols = |these: Vec<(u32, Position)>| these.into_iter().map(|(symbol, _)| symbol).collect::<Vec<_>>();
     assert_eq!(symbols(ledger.open_positions().collect()), [2, 30]);
     assert_eq!(symbols(ledger.long_positions().collect()), [2]);
     assert_eq!(symbols(ledger.short_positions().collect()), [30]);
@@ -76,9 +76,9 @@ fn flat_or_not() {
 #[test]
 fn readings_test_nothing() {
     let mut record = ledger();
-    record.positions[0].average = 9;
+    record.averages[0] = 9;
     assert!(!record.is_ledger());
-    assert_eq!((record.cash(), record.average_entry_price(0), record.position(0).map(Position::is_flat)), (797, Some(9), Some(true)));
+    assert_eq!((record.cash(), record.average_entry_price(0), record.position(0).map(|it| it.is_flat())), (797, Some(9), Some(true)));
 }
 
 /// A path at the root and a path by the module name one type.

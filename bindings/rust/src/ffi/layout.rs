@@ -1,7 +1,6 @@
 //! The layout that C gives each record on x86-64, worked out from the records' declarations in the archive's sources.
 use super::*;
 use crate::orderbook::Levels;
-use crate::position::Position;
 use crate::told::Whole;
 use std::mem::{size_of, MaybeUninit};
 use std::ptr::addr_of;
@@ -39,9 +38,11 @@ fn books() {
 
 #[test]
 fn ledgers() {
-    assert_eq!(layout!(Position, quantity, average, realized), [24, 0, 8, 16]);
-    assert_eq!(layout!(PositionLedger, cash, commission, positions), [784, 0, 8, 16]);
-    assert_eq!(layout!(LedgerTold, ledger, told), [864, 0, 784]);
+    assert_eq!(layout!(PositionLedger, cash, commission, quantities, averages, realized), [656, 0, 8, 16, 272, 400]);
+    assert_eq!(layout!(LedgerTold, ledger, told), [736, 0, 656]);
+    assert_eq!(layout!(Totals, cash, commission), [16, 0, 8]);
+    assert_eq!(layout!(TotalsTold, totals, told), [96, 0, 16]);
+    assert_eq!((size_of::<Amounts>(), size_of::<Averages>()), (256, 128));
 }
 
 #[test]

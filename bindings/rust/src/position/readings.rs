@@ -1,7 +1,7 @@
 //! What a position and a ledger hold, read off their fields. Nothing is tested or worked out here, and no proved call is made: a record
 //! that is no ledger is read as it stands (`is_ledger` tells).
 use super::{Position, PositionDirection, PositionLedger};
-use crate::types::{Price, Symbol};
+use crate::types::{Price, Symbol, SYMBOLS};
 
 impl Position {
     /// Whether there are no lots. Reads the field alone.
@@ -50,28 +50,34 @@ impl PositionLedger {
         self.commission
     }
 
-    /// The position of a symbol, flat if it was never traded; nothing for a symbol that there is not. Reads the field alone.
-    pub fn position(&self, symbol: Symbol) -> Option<&Position> {
-        self.positions.get(symbol as usize)
+    /// What stands at a place of the rows.
+    fn held(&self, place: usize) -> Position {
+        Position { quantity: self.quantities[place], average: self.averages[place], realized: self.realized[place] }
+    }
+
+    /// The position of a symbol, flat if it was never traded; nothing for a symbol that there is not. Reads the fields alone.
+    pub fn position(&self, symbol: Symbol) -> Option<Position> {
+        let place = symbol as usize;
+        (place < SYMBOLS).then(|| self.held(place))
     }
 
     /// Each symbol and its position, all 32, in the order of symbols. Reads the fields alone.
-    pub fn positions(&self) -> impl Iterator<Item = (Symbol, &Position)> {
-        (0..).zip(&self.positions)
+    pub fn positions(&self) -> impl Iterator<Item = (Symbol, Position)> + '_ {
+        (0..SYMBOLS).map(move |place| (place as Symbol, self.held(place)))
     }
 
     /// The symbols that have lots, and their positions, in the order of symbols. Reads the fields alone.
-    pub fn open_positions(&self) -> impl Iterator<Item = (Symbol, &Position)> {
+    pub fn open_positions(&self) -> impl Iterator<Item = (Symbol, Position)> + '_ {
         self.positions().filter(|(_, it)| !it.is_flat())
     }
 
     /// The symbols that are long, and their positions, in the order of symbols. Reads the fields alone.
-    pub fn long_positions(&self) -> impl Iterator<Item = (Symbol, &Position)> {
+    pub fn long_positions(&self) -> impl Iterator<Item = (Symbol, Position)> + '_ {
         self.positions().filter(|(_, it)| it.is_long())
     }
 
     /// The symbols that are short, and their positions, in the order of symbols. Reads the fields alone.
-    pub fn short_positions(&self) -> impl Iterator<Item = (Symbol, &Position)> {
+    pub fn short_positions(&self) -> impl Iterator<Item = (Symbol, Position)> + '_ {
         self.positions().filter(|(_, it)| it.is_short())
     }
 
@@ -102,12 +108,12 @@ impl PositionLedger {
 
     /// Whether no symbol has lots. Reads the fields alone.
     pub fn all_flat(&self) -> bool {
-        self.positions.iter().all(Position::is_flat)
+        self.quantities.iter().all(|lots| *lots == 0)
     }
 
     /// The profit that a symbol has realized so far, commissions taken off; nothing for a symbol that there is not. Reads the field alone.
     pub fn realized_pnl(&self, symbol: Symbol) -> Option<i64> {
-        self.position(symbol).map(|it| it.realized)
+        self.realized.get(symbol as usize).copied()
     }
 
     /// The average price of a symbol's lots, rounded down; nothing where it has none. Reads the field alone.

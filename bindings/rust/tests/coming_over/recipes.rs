@@ -49,7 +49,7 @@ pub fn net_quantity(ledger: &PositionLedger) -> i64 {
 }
 
 /// `largest_position`; `smallest_position` is `min_by_key`.
-pub fn largest_position(ledger: &PositionLedger) -> Option<(Symbol, &Position)> {
+pub fn largest_position(ledger: &PositionLedger) -> Option<(Symbol, Position)> {
     ledger.open_positions().max_by_key(|(_, held)| held.quantity_abs())
 }
 
