@@ -2,6 +2,7 @@
 use crate::forms::*;
 use crate::ledgers::Accounts;
 use crate::random::Random;
+use crate::rules;
 use crate::tally::{Tally, Verdict};
 use wermazul::{Position, PositionLedger};
 
@@ -40,22 +41,33 @@ fn position(random: &mut Random) -> Position {
     Position { quantity, average, realized: within(random, MAX_MONEY) }
 }
 
+fn put(ledger: &mut PositionLedger, symbol: usize, held: Position) {
+    ledger.quantities[symbol] = held.quantity;
+    ledger.averages[symbol] = held.average;
+    ledger.realized[symbol] = held.realized;
+}
+
+fn empty() -> PositionLedger {
+    PositionLedger::new(0).expect("no cash is within the limit")
+}
+
 /// Any ledger: some symbols used, cash often plenty.
 pub fn ledger(random: &mut Random) -> PositionLedger {
-    let mut positions = [Position::default(); SYMBOLS];
+    let mut ledger = empty();
     let used = random.one_of(&[0, 1, 1, 2, 2, 3, 6, 32]);
     for place in 0..used {
         let symbol = if used == 32 { place } else { random.below(SYMBOLS as u64) };
-        positions[symbol as usize] = position(random);
+        put(&mut ledger, symbol as usize, position(random));
     }
     let plenty = 1_000_000_000_000_000;
-    let cash = if random.percent(50) { plenty } else { within(random, MAX_MONEY) };
-    PositionLedger { cash, commission: within(random, MAX_MONEY), positions }
+    ledger.cash = if random.percent(50) { plenty } else { within(random, MAX_MONEY) };
+    ledger.commission = within(random, MAX_MONEY);
+    ledger
 }
 
 /// A symbol that the ledger uses, if it uses any; sometimes any, or none there is.
 fn symbol(random: &mut Random, ledger: &PositionLedger) -> u32 {
-    let used: Vec<u32> = (0..SYMBOLS as u32).filter(|it| ledger.positions[*it as usize] != Position::default()).collect();
+    let used: Vec<u32> = ledger.positions().filter(|it| it.1 != Position::default()).map(|it| it.0).collect();
     if random.percent(2) {
         return random.one_of(&[32, 33, u32::MAX]);
     }
@@ -76,7 +88,7 @@ fn commission(random: &mut Random, ledger: &PositionLedger, side: u64, quantity:
 
 pub fn fill(random: &mut Random, ledger: &PositionLedger) -> Fill {
     let symbol = symbol(random, ledger);
-    let held = ledger.positions.get(symbol as usize).map_or(0, |it| it.quantity.unsigned_abs() as u32);
+    let held = ledger.quantities.get(symbol as usize).map_or(0, |lots| lots.unsigned_abs() as u32);
     let side = random.below(2);
     let near = random.below(5) as u32;
     let any = random.below(MAX_QUANTITY as u64 + 1) as u32;
@@ -92,7 +104,7 @@ pub fn fill(random: &mut Random, ledger: &PositionLedger) -> Fill {
 pub fn prices(random: &mut Random, ledger: &PositionLedger) -> Vec<u32> {
     let missing = random.one_of(&[0, 0, 30, 100]);
     let mut prices = vec![0; SYMBOLS];
-    let open = (0..SYMBOLS).filter(|it| ledger.positions[*it].quantity != 0 || *it == 3);
+    let open = (0..SYMBOLS).filter(|it| ledger.quantities[*it] != 0 || *it == 3);
     for symbol in open {
         prices[symbol] = if random.percent(missing) { 0 } else { price(random) };
     }
@@ -132,13 +144,13 @@ pub fn round(random: &mut Random, tally: &mut Tally) {
 
 /// Two positions whose net exposure is about a hundredth of the gross, and a third that tips it by a hair.
 pub fn nearly_neutral(random: &mut Random, tally: &mut Tally) {
-    let mut ours = PositionLedger::new(0).expect("no cash is within the limit");
+    let mut ours = empty();
     let share = random.one_of(&[1, 2, 7, 9_900_000]);
     let sign = random.one_of(&[1, -1]);
     let lots = [101 * share + random.between(-2, 2), -99 * share, random.between(-1, 1)];
     for (symbol, lots) in lots.iter().enumerate() {
         let average = if *lots == 0 { 0 } else { 1 };
-        ours.positions[symbol] = Position { quantity: lots * sign, average, realized: 0 };
+        put(&mut ours, symbol, Position { quantity: lots * sign, average, realized: 0 });
     }
     let price = random.one_of(&[1, 1, 50, MAX_PRICE]);
     let mut prices = vec![0; SYMBOLS];
@@ -160,7 +172,7 @@ fn divisor(a: u64, b: u64) -> u64 {
 /// A fill after which the average is whole, and which is no small turnover: what is compared over whole histories.
 pub fn whole_fill(random: &mut Random, ledger: &PositionLedger) -> Fill {
     let symbol = random.below(4) as u32;
-    let held = ledger.positions[symbol as usize];
+    let held = rules::held(ledger, symbol);
     let side = random.below(2);
     let old = held.quantity.unsigned_abs();
     let grown = held.quantity == 0 || (held.quantity > 0) == (side == BID);

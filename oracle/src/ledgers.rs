@@ -15,8 +15,9 @@ pub struct Accounts {
     pub theirs: PositionLedger,
 }
 
+/// What the rows have of each symbol.
 fn holdings(ledger: &OurLedger) -> [Holding; SYMBOLS] {
-    ledger.positions.map(|it| (it.quantity, it.average, it.realized))
+    std::array::from_fn(|symbol| (ledger.quantities[symbol], ledger.averages[symbol], ledger.realized[symbol]))
 }
 
 /// A record in few words: cash, commission, and the positions that are not all 0.
@@ -66,18 +67,17 @@ impl Accounts {
     /// A taken fill: totals, the fill's position in the ledger and alone, and the other positions of ours untouched.
     fn taken(&self, before: &OurLedger, fill: &Fill) -> Verdict {
         let symbol = fill.symbol as usize;
-        let old = before.positions[symbol];
-        let new = holdings(&self.ours)[symbol];
-        let mut others = before.clone();
-        others.positions[symbol] = self.ours.positions[symbol];
-        let others_kept = others.positions == self.ours.positions;
-        let booking = rules::booking(&old, fill);
+        let (mut others, after) = (holdings(before), holdings(&self.ours));
+        let (old, new) = (others[symbol], after[symbol]);
+        others[symbol] = new;
+        let others_kept = others == after;
+        let booking = rules::booking(&rules::held(before, fill.symbol), fill);
         let within = self.theirs.position(&money::symbol_of(fill.symbol));
-        let alone = money::position_after((old.quantity, old.average, old.realized), fill);
+        let alone = money::position_after(old, fill);
         match (within, alone) {
             (Some(within), Some(alone)) if others_kept && self.totals_same() => {
-                let verdict = position_verdict(within, &new, &booking, old.average, fill.price);
-                let same = position_verdict(&alone, &new, &booking, old.average, fill.price) == verdict;
+                let verdict = position_verdict(within, &new, &booking, old.1, fill.price);
+                let same = position_verdict(&alone, &new, &booking, old.1, fill.price) == verdict;
                 if same {
                     verdict
                 } else {
@@ -142,8 +142,8 @@ impl Accounts {
             Verdict::allowed(Class::PastLimit, said.number == 9 && self.ours == before)
         } else {
             self.theirs.deposit(Decimal::from(amount));
-            let others_kept = self.ours.positions == before.positions;
-            Verdict::same(said == Said::done() && self.totals_same() && others_kept)
+            let rows_kept = holdings(&self.ours) == holdings(&before);
+            Verdict::same(said == Said::done() && self.totals_same() && rows_kept)
         };
         tally.count("deposit", said.number, verdict, || {
             format!("{} on {}: ours {} now {}", amount, described(&before), said, described(&self.ours))
@@ -190,7 +190,7 @@ impl Accounts {
 
     /// Whether ours is the smallest open symbol without a price, and theirs another such symbol.
     fn names_differ(&self, ours: &Said, theirs: &Said, prices: &[u32]) -> bool {
-        let open = |symbol: &usize| self.ours.positions[*symbol].quantity != 0 && prices[*symbol] == 0;
+        let open = |symbol: &usize| self.ours.quantities[*symbol] != 0 && prices[*symbol] == 0;
         let missing: Vec<Decimal> = (0..SYMBOLS).filter(open).map(Decimal::from).collect();
         missing.first() == ours.values().first() && missing.contains(&theirs.values()[0])
     }

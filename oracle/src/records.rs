@@ -75,15 +75,14 @@ pub fn book_round(random: &mut Random, tally: &mut Tally) {
 fn spoil_ledger(random: &mut Random, ledger: &mut PositionLedger) {
     let past = random.one_of(&[MAX_MONEY + 1, -MAX_MONEY - 1, i64::MAX, i64::MIN]);
     let symbol = random.below(SYMBOLS as u64) as usize;
-    let position = &mut ledger.positions[symbol];
     match random.below(7) {
         0 => ledger.cash = past,
         1 => ledger.commission = past,
-        2 => position.realized = past,
-        3 => position.quantity = random.one_of(&[MAX_POSITION + 1, -MAX_POSITION - 1, i64::MIN, i64::MAX]),
-        4 => position.average = random.one_of(&[1, MAX_PRICE + 1, u32::MAX]),
-        5 => position.average = 0,
-        _ => position.quantity = 0,
+        2 => ledger.realized[symbol] = past,
+        3 => ledger.quantities[symbol] = random.one_of(&[MAX_POSITION + 1, -MAX_POSITION - 1, i64::MIN, i64::MAX]),
+        4 => ledger.averages[symbol] = random.one_of(&[1, MAX_PRICE + 1, u32::MAX]),
+        5 => ledger.averages[symbol] = 0,
+        _ => ledger.quantities[symbol] = 0,
     }
 }
 

@@ -71,8 +71,13 @@ fn is_position(position: &Position) -> bool {
     (position.quantity as i128).abs() <= MAX_POSITION as i128 && is_money(position.realized as i128) && averaged
 }
 
+/// What a ledger has of a symbol within the limits.
+pub fn held(ledger: &PositionLedger, symbol: u32) -> Position {
+    ledger.position(symbol).expect("a symbol within the limits")
+}
+
 pub fn is_ledger(ledger: &PositionLedger) -> bool {
-    is_money(ledger.cash as i128) && is_money(ledger.commission as i128) && ledger.positions.iter().all(is_position)
+    is_money(ledger.cash as i128) && is_money(ledger.commission as i128) && ledger.positions().all(|it| is_position(&it.1))
 }
 
 pub fn fill_within(fill: &Fill) -> bool {
@@ -124,7 +129,7 @@ impl Booking {
 pub fn is_bearable(ledger: &PositionLedger, fill: &Fill) -> bool {
     let cash = ledger.cash as i128 - fill.charge();
     let paid = ledger.commission as i128 + fill.commission as i128;
-    is_money(cash) && is_money(paid) && booking(&ledger.positions[fill.symbol as usize], fill).is_within()
+    is_money(cash) && is_money(paid) && booking(&held(ledger, fill.symbol), fill).is_within()
 }
 
 pub fn is_short(ledger: &PositionLedger, fill: &Fill) -> bool {

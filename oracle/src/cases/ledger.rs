@@ -3,6 +3,7 @@ use super::Case;
 use crate::forms::*;
 use crate::original::money;
 use crate::ours::{changes, told};
+use crate::rules;
 use original::position::PositionLedger;
 use rust_decimal::Decimal;
 use std::collections::BTreeSet;
@@ -44,7 +45,7 @@ fn held(theirs: &PositionLedger) -> String {
 /// The answers of a history, and where it ends: cash, quantity, average, realized.
 fn case(name: &'static str, cash: i64, fills: &[Fill], expected: (&'static str, &'static str)) -> Case {
     let (ours, said, theirs, their_said) = after(cash, fills);
-    let it = ours.positions[3];
+    let it = rules::held(&ours, 3);
     Case {
         name,
         ours: format!("{}: cash {}, {} at {} realized {}", said, ours.cash, it.quantity, it.average, it.realized),
@@ -279,7 +280,7 @@ fn singles() -> Vec<Case> {
 fn records() -> Vec<Case> {
     let past = MAX_MONEY + 1;
     let (mut none, _, _, _) = after(0, &[]);
-    none.positions[3].average = 1;
+    none.averages[3] = 1;
     let (ours, _, theirs, _) = after(0, &[sold(0, 1, 0)]);
     let nothing = theirs.position(&money::symbol_of(3)).expect("a position").quantity;
     vec![
@@ -297,7 +298,7 @@ fn records() -> Vec<Case> {
         },
         Case {
             name: "the quantity that an Ask of nothing leaves, as it is printed",
-            ours: ours.positions[3].quantity.to_string(),
+            ours: ours.quantities[3].to_string(),
             theirs: nothing.to_string(),
             expected: ("0", "-0"),
         },

@@ -1,5 +1,6 @@
 //! Slips planted in our answers on request, to see that the comparison catches them. Without a request nothing here changes anything.
 use crate::forms::{Asked, Delta, Fill, ASK, BID, REMOVE};
+use crate::rules::held;
 use crate::said::Said;
 use rust_decimal::Decimal;
 use std::sync::atomic::{AtomicUsize, Ordering};
@@ -174,23 +175,23 @@ pub fn filled(before: &PositionLedger, ledger: &mut PositionLedger, fill: &Fill,
     if !any() || said.number != 0 {
         return said;
     }
-    let old = before.positions[fill.symbol as usize];
-    let new = &mut ledger.positions[fill.symbol as usize];
+    let (symbol, old) = (fill.symbol as usize, held(before, fill.symbol));
+    let (lots, average) = (ledger.quantities[symbol], &mut ledger.averages[symbol]);
     let grown = old.quantity == 0 || (old.quantity > 0) == (fill.side == BID);
     let cost = old.average as i128 * old.quantity.unsigned_abs() as i128 + fill.price as i128 * fill.quantity as i128;
-    let size = new.quantity.unsigned_abs() as i128;
-    let turned = (old.quantity > 0 && new.quantity < 0) || (old.quantity < 0 && new.quantity > 0);
+    let size = lots.unsigned_abs() as i128;
+    let turned = (old.quantity > 0 && lots < 0) || (old.quantity < 0 && lots > 0);
     if planted("average-rounded-up") && grown && size > 0 && cost % size != 0 {
-        new.average += 1;
+        *average += 1;
     }
-    if planted("small-turnover-keeps") && turned && new.quantity.abs() <= old.quantity.abs() {
-        new.average = old.average;
+    if planted("small-turnover-keeps") && turned && lots.abs() <= old.quantity.abs() {
+        *average = old.average;
     }
-    if planted("flat-keeps-average") && new.quantity == 0 {
-        new.average = old.average;
+    if planted("flat-keeps-average") && lots == 0 {
+        *average = old.average;
     }
     if planted("commission-not-realized") {
-        new.realized += fill.commission;
+        ledger.realized[symbol] += fill.commission;
     }
     if planted("commission-off-by-one") && fill.commission != 0 {
         ledger.cash -= 1;
@@ -203,13 +204,13 @@ pub fn filled(before: &PositionLedger, ledger: &mut PositionLedger, fill: &Fill,
 }
 
 fn exposures(ledger: &PositionLedger, prices: &[u32]) -> (i128, i128) {
-    let each = ledger.positions.iter().zip(prices).map(|(it, price)| it.quantity as i128 * *price as i128);
+    let each = ledger.quantities.iter().zip(prices).map(|(lots, price)| *lots as i128 * *price as i128);
     each.fold((0, 0), |(net, gross), worth| (net + worth, gross + worth.abs()))
 }
 
 /// The symbols that are open and have no price.
 pub fn unpriced(ledger: &PositionLedger, prices: &[u32]) -> Vec<u32> {
-    let open = |symbol: &usize| ledger.positions[*symbol].quantity != 0 && prices[*symbol] == 0;
+    let open = |symbol: &usize| ledger.quantities[*symbol] != 0 && prices[*symbol] == 0;
     (0..prices.len().min(32)).filter(open).map(|symbol| symbol as u32).collect()
 }
 

@@ -190,7 +190,7 @@ impl Replay {
 
     /// The four worths, save where the original may name one of several symbols.
     fn worths(&mut self) {
-        let open = |symbol: &usize| self.accounts.ours.positions[*symbol].quantity != 0 && self.prices[*symbol] == 0;
+        let open = |symbol: &usize| self.accounts.ours.quantities[*symbol] != 0 && self.prices[*symbol] == 0;
         if (0..SYMBOLS).filter(open).count() > 1 {
             return;
         }
