@@ -181,7 +181,7 @@ static wermazul_ledger_record traded(void)
 static void ledgers(wermazul_ledger_record l)
 {
     uint32_t prices[32] = {0};
-    wermazul_totals totals = totals_of(&l), more = {10000, 3};
+    wermazul_totals totals = totals_of(&l), left = {10000, 3};
     expect("its totals", l.cash == 10205 && l.commission == 3);
     expect("its position", l.quantities[31] == -2 && l.averages[31] == 90 && l.realized[31] == 27);
     expect("the others", l.quantities[30] == 0 && l.averages[30] == 0 && l.realized[30] == 0);
@@ -191,7 +191,7 @@ static void ledgers(wermazul_ledger_record l)
     hold("31 prices", wermazul_worth(WERMAZUL_LEDGER_ROWS(l), totals, 1, prices, 31), 2, 0, 0, 0);
     wermazul_totals_told next = wermazul_deposit(WERMAZUL_LEDGER_ROWS(l), totals, -205);
     hold("deposit", next.told, 0, 0, 0, 0);
-    expect("deposited", same_totals(next.totals, more) && wermazul_is_ledger(WERMAZUL_LEDGER_ROWS(l), next.totals));
+    expect("deposited", same_totals(next.totals, left) && wermazul_is_ledger(WERMAZUL_LEDGER_ROWS(l), next.totals));
 }
 
 /* A refusal leaves every row as it was, and gives back the totals that were handed in. */
@@ -202,10 +202,10 @@ static void refused(wermazul_ledger_record l)
     hold("too much cash", wermazul_ledger(INT64_MAX).told, 2, 0, 0, 0);
     wermazul_totals_told next = wermazul_apply_fill(WERMAZUL_LEDGER_ROWS(l), owing, 31, 0, 1, 99, -7);
     hold("short of cash", next.told, 8, 2, 92, -5);
-    expect("its totals", same_totals(next.totals, owing));
+    expect("totals of one short of cash", same_totals(next.totals, owing));
     next = wermazul_apply_fill(WERMAZUL_LEDGER_ROWS(l), owing, 32, 1, 1, 99, 0);
     hold("no symbol", next.told, 2, 0, 0, 0);
-    expect("its totals", same_totals(next.totals, owing));
+    expect("totals without a symbol", same_totals(next.totals, owing));
     hold("no side", wermazul_apply_fill(WERMAZUL_LEDGER_ROWS(l), owing, 31, 2, 1, 99, 0).told, 2, 0, 0, 0);
     next = wermazul_deposit(WERMAZUL_LEDGER_ROWS(l), wrong, 1);
     hold("no ledger", next.told, 1, 0, 0, 0);
