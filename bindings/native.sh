@@ -122,12 +122,14 @@ made_by_rt() {
 # The module as text. What hangs on x86-64 is its target, the stack copies of records by value (aarch64 passes a record of more than 16
 # bytes by a pointer to the caller's copy), and the place of a record that is given back: x86-64 has a pointer as first argument and gives
 # it back, aarch64 has it in register x8, which LLVM calls sret. Only the wrappers that C sees have these; the functions are not touched.
+# A record of 16 bytes is two numbers in registers on both, as long as x86-64 has two registers left; its stack copy is another matter on
+# aarch64, and is not turned.
 turned() {
   sed -E \
     -e '/^target datalayout/d' \
     -e 's/^target triple = .*/target triple = "aarch64-unknown-linux-gnu"/' \
     -e 's/ "(target|tune)-cpu"="[^"]*"//g' \
-    -e 's/ byval\(\[[0-9]+ x i8\]\) align 8//g' \
+    -e 's/ byval\(\[(1[7-9]|[2-9][0-9]|[0-9]{3,}) x i8\]\) align 8//g' \
     -e '/^define noundef ptr @wermazul_/,/^}/{
           s/^define noundef ptr (@wermazul_[a-z_]*)\(ptr noundef %a0/define void \1(ptr noundef sret(i8) align 8 %a0/
           s/^  ret ptr %a0$/  ret void/
@@ -135,12 +137,13 @@ turned() {
 }
 
 # What of a turned module is not known to mean the same on both: a word of x86-64, or a function at the boundary that has another type than
-# a pointer or a number of 32 or 64 bits.
+# a pointer, a number of 32 or 64 bits, or the two halves of one record, without noundef, among the six arguments that x86-64 has in registers.
 not_understood() {
-  local type='(ptr|i64|i32) noundef( sret\(i8\) align 8)?( %a[0-9]+)?'
+  local type='(ptr|i64|i32) noundef( sret\(i8\) align 8)?( %a[0-9]+)?' half='i64( %a[0-9]+)?' types
+  types="$type(, $type)*|($type, ){0,4}$half, $half(, $type)*"
   grep -v '^attributes' "$1" | grep -nE 'byval|x86|\basm\b' || true
   grep -nE '^(define|declare) ' "$1" | grep -vE '^[0-9]+:(define internal|declare void @llvm\.)' |
-    grep -vE "^[0-9]+:(define|declare) (void|i32|noundef (i64|i32|zeroext i1)) @[A-Za-z0-9_]+\(($type(, $type)*)?\) #[0-9]+( \{)?$" || true
+    grep -vE "^[0-9]+:(define|declare) (void|i32|noundef (i64|i32|zeroext i1)) @[A-Za-z0-9_]+\(($types)?\) #[0-9]+( \{)?$" || true
 }
 
 compiled_for_aarch64() {
