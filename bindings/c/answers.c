@@ -242,7 +242,21 @@ static void deposit(wermazul_ledger_record *ledger)
     tell_ledger("wermazul_deposit", ledger, after.told);
 }
 
-/* A ledger's history, with deposits and questions between, and at times a number replaced. */
+/* One number of the record is replaced, which makes many a ledger no ledger. */
+static void spoil_ledger(wermazul_ledger_record *ledger)
+{
+    uint64_t place = below(32), value = below(2) ? number(200) : below(0);
+    int64_t amount = (int64_t)value;
+    switch (below(5)) {
+    case 0: ledger->quantities[place] = amount; break;
+    case 1: ledger->averages[place] = (uint32_t)value; break;
+    case 2: ledger->realized[place] = amount; break;
+    case 3: ledger->cash = amount; break;
+    default: ledger->commission = amount;
+    }
+}
+
+/* A ledger's history, with deposits and questions between; at its end copies with a number replaced are asked and changed. */
 static void account(void)
 {
     wermazul_ledger_told made = wermazul_ledger((int64_t)number(100000000));
@@ -251,8 +265,14 @@ static void account(void)
     for (uint64_t left = below(60); left > 0; left--) {
         fill(&ledger);
         if (below(8) == 0) deposit(&ledger);
-        if (below(90) == 0) ledger.averages[5] ^= 3;
         if (below(4) == 0) value(&ledger);
+    }
+    for (int left = 0; left < 8; left++) {
+        wermazul_ledger_record spoilt = ledger;
+        spoil_ledger(&spoilt);
+        value(&spoilt);
+        fill(&spoilt);
+        deposit(&spoilt);
     }
 }
 

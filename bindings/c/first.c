@@ -194,23 +194,147 @@ static void ledgers(wermazul_ledger_record l)
     expect("deposited", same_totals(next.totals, left) && wermazul_is_ledger(WERMAZUL_LEDGER_ROWS(l), next.totals));
 }
 
-/* A refusal leaves every row as it was, and gives back the totals that were handed in. */
+/* Long 3 of symbol 2 and short 2 of symbol 30, with a commission of 4 and of -1. */
+static wermazul_ledger_record pair(void)
+{
+    wermazul_ledger_record l = wermazul_ledger(1000).ledger;
+    wermazul_totals_told next = wermazul_apply_fill(WERMAZUL_LEDGER_ROWS(l), totals_of(&l), 2, 0, 3, 100, 4);
+    hold("a purchase", next.told, 0, 0, 0, 0);
+    next = wermazul_apply_fill(WERMAZUL_LEDGER_ROWS(l), next.totals, 30, 1, 2, 50, -1);
+    hold("a sale", next.told, 0, 0, 0, 0);
+    l.cash = next.totals.cash;
+    l.commission = next.totals.commission;
+    return l;
+}
+
+/* Each position has its own place of each row, and each worth is of both. */
+static void pairs(wermazul_ledger_record l)
+{
+    uint32_t prices[32] = {0};
+    wermazul_totals totals = totals_of(&l), left = {797, 3}, paid = {1000, 3};
+    expect("a pair", wermazul_is_ledger(WERMAZUL_LEDGER_ROWS(l), totals) && same_totals(totals, left));
+    expect("the long one", l.quantities[2] == 3 && l.averages[2] == 100 && l.realized[2] == -4);
+    expect("the short one", l.quantities[30] == -2 && l.averages[30] == 50 && l.realized[30] == 1);
+    hold("unrealized, long", wermazul_unrealized(WERMAZUL_LEDGER_ROWS(l), totals, 2, 90), 0, 1, -30, 0);
+    hold("unrealized, short", wermazul_unrealized(WERMAZUL_LEDGER_ROWS(l), totals, 30, 70), 0, 1, -40, 0);
+    hold("unrealized, none", wermazul_unrealized(WERMAZUL_LEDGER_ROWS(l), totals, 3, 70), 0, 1, 0, 0);
+    hold("no prices", wermazul_worth(WERMAZUL_LEDGER_ROWS(l), totals, 2, prices, 32), 10, 0, 0, 0);
+    prices[2] = 90;
+    hold("one price", wermazul_worth(WERMAZUL_LEDGER_ROWS(l), totals, 0, prices, 32), 13, 1, 30, 0);
+    prices[30] = 70;
+    hold("both unrealized", wermazul_worth(WERMAZUL_LEDGER_ROWS(l), totals, 0, prices, 32), 0, 1, -70, 0);
+    hold("both and cash", wermazul_worth(WERMAZUL_LEDGER_ROWS(l), totals, 1, prices, 32), 0, 1, 927, 0);
+    hold("both exposed", wermazul_worth(WERMAZUL_LEDGER_ROWS(l), totals, 2, prices, 32), 0, 1, 130, 0);
+    hold("not neutral", wermazul_worth(WERMAZUL_LEDGER_ROWS(l), totals, 3, prices, 32), 0, 1, 0, 0);
+    prices[30] = 135;
+    hold("neutral", wermazul_worth(WERMAZUL_LEDGER_ROWS(l), totals, 3, prices, 32), 0, 1, 1, 0);
+    hold("no worth", wermazul_worth(WERMAZUL_LEDGER_ROWS(l), totals, 4, prices, 32), 2, 0, 0, 0);
+    wermazul_totals_told next = wermazul_deposit(WERMAZUL_LEDGER_ROWS(l), totals, 203);
+    hold("a pair's deposit", next.told, 0, 0, 0, 0);
+    expect("a pair's cash", same_totals(next.totals, paid));
+}
+
+/* A refused change leaves the record as it was, every byte of it, and gives back the totals that were handed in. */
+static void kept(const char *what, const wermazul_ledger_record *l, const wermazul_ledger_record *before, wermazul_totals_told after)
+{
+    expect(what, memcmp(l, before, sizeof *l) == 0 && same_totals(after.totals, totals_of(before)));
+}
+
+static void refused_fill(
+    const char *what, wermazul_ledger_record l, uint32_t symbol, uint64_t side, uint32_t quantity, uint32_t price, uint64_t number)
+{
+    wermazul_ledger_record before = l;
+    wermazul_totals_told after = wermazul_apply_fill(WERMAZUL_LEDGER_ROWS(l), totals_of(&l), symbol, side, quantity, price, 0);
+    hold(what, after.told, number, 0, 0, 0);
+    kept(what, &l, &before, after);
+}
+
+static void refused_deposit(const char *what, wermazul_ledger_record l, int64_t amount, uint64_t number)
+{
+    wermazul_ledger_record before = l;
+    wermazul_totals_told after = wermazul_deposit(WERMAZUL_LEDGER_ROWS(l), totals_of(&l), amount);
+    hold(what, after.told, number, 0, 0, 0);
+    kept(what, &l, &before, after);
+}
+
+static const int64_t most_lots = 1000000000, most_paid_in = 1000000000000000000, most_money = 4000000000000000000;
+
 static void refused(wermazul_ledger_record l)
 {
-    static const wermazul_totals owing = {-5, 3}, wrong = {INT64_MIN, 3};
-    wermazul_ledger_record before = l;
+    wermazul_ledger_record owing = l, before;
+    owing.cash = -5;
+    before = owing;
+    wermazul_totals_told after = wermazul_apply_fill(WERMAZUL_LEDGER_ROWS(owing), totals_of(&owing), 2, 0, 1, 99, -7);
+    hold("short of cash", after.told, 8, 2, 92, -5);
+    kept("short of cash, and changed", &owing, &before, after);
     hold("too much cash", wermazul_ledger(INT64_MAX).told, 2, 0, 0, 0);
-    wermazul_totals_told next = wermazul_apply_fill(WERMAZUL_LEDGER_ROWS(l), owing, 31, 0, 1, 99, -7);
-    hold("short of cash", next.told, 8, 2, 92, -5);
-    expect("totals of one short of cash", same_totals(next.totals, owing));
-    next = wermazul_apply_fill(WERMAZUL_LEDGER_ROWS(l), owing, 32, 1, 1, 99, 0);
-    hold("no symbol", next.told, 2, 0, 0, 0);
-    expect("totals without a symbol", same_totals(next.totals, owing));
-    hold("no side", wermazul_apply_fill(WERMAZUL_LEDGER_ROWS(l), owing, 31, 2, 1, 99, 0).told, 2, 0, 0, 0);
-    next = wermazul_deposit(WERMAZUL_LEDGER_ROWS(l), wrong, 1);
-    hold("no ledger", next.told, 1, 0, 0, 0);
-    expect("no ledger's totals", same_totals(next.totals, wrong) && !wermazul_is_ledger(WERMAZUL_LEDGER_ROWS(l), wrong));
-    expect("as it was", memcmp(&l, &before, sizeof l) == 0);
+    refused_fill("no symbol", l, 32, 1, 1, 99, 2);
+    refused_fill("no price", l, 2, 1, 1, 0, 2);
+    refused_fill("no fill's side", l, 2, 2, 1, 99, 2);
+    refused_fill("too short", l, 30, 1, (uint32_t)most_lots, 1, 9);
+    refused_deposit("too large a deposit", l, most_paid_in + 1, 2);
+    refused_deposit("too large a withdrawal", l, INT64_MIN, 2);
+    l.cash = most_money;
+    refused_fill("too much by a sale", l, 2, 1, 1, 1, 9);
+    refused_deposit("too much by a deposit", l, 1, 9);
+    l.cash = -most_money;
+    refused_deposit("too little by a withdrawal", l, -1, 9);
+}
+
+/* Every call answers 1 of such a record, before anything else. */
+static void no_ledger(const char *what, wermazul_ledger_record l)
+{
+    uint32_t prices[32] = {0};
+    wermazul_totals totals = totals_of(&l);
+    expect(what, !wermazul_is_ledger(WERMAZUL_LEDGER_ROWS(l), totals));
+    for (uint64_t side = 0; side < 3; side++) refused_fill(what, l, 2, side, 1, 1, 1);
+    refused_fill(what, l, 32, 1, 1, 1, 1);
+    refused_deposit(what, l, 1, 1);
+    refused_deposit(what, l, INT64_MIN, 1);
+    hold(what, wermazul_unrealized(WERMAZUL_LEDGER_ROWS(l), totals, 2, 1), 1, 0, 0, 0);
+    hold(what, wermazul_unrealized(WERMAZUL_LEDGER_ROWS(l), totals, 32, 1), 1, 0, 0, 0);
+    for (uint64_t worth = 0; worth < 5; worth++) hold(what, wermazul_worth(WERMAZUL_LEDGER_ROWS(l), totals, worth, prices, 32), 1, 0, 0, 0);
+    hold(what, wermazul_worth(WERMAZUL_LEDGER_ROWS(l), totals, 0, prices, 31), 1, 0, 0, 0);
+}
+
+/* One number at its limit, on both sides of 0, and past it. */
+static void held_to(const char *what, wermazul_ledger_record *l, int64_t *number, int64_t most)
+{
+    int64_t before = *number;
+    for (int64_t sign = -1; sign <= 1; sign += 2) {
+        *number = sign * most;
+        expect(what, wermazul_is_ledger(WERMAZUL_LEDGER_ROWS(*l), totals_of(l)));
+        *number = sign * (most + 1);
+        no_ledger(what, *l);
+    }
+    *number = INT64_MIN;
+    no_ledger(what, *l);
+    *number = before;
+}
+
+/* The same for an average, which is 0 exactly where there are no lots. */
+static void average_held(const char *what, wermazul_ledger_record l, int place, uint32_t average, bool holds)
+{
+    l.averages[place] = average;
+    expect(what, wermazul_is_ledger(WERMAZUL_LEDGER_ROWS(l), totals_of(&l)) == holds);
+    if (!holds) no_ledger(what, l);
+}
+
+/* Each number of the record that a ledger holds to a rule, at the row's ends too. */
+static void no_ledgers(wermazul_ledger_record l)
+{
+    held_to("cash", &l, &l.cash, most_money);
+    held_to("commission", &l, &l.commission, most_money);
+    held_to("lots, long", &l, &l.quantities[2], most_lots);
+    held_to("lots, short", &l, &l.quantities[30], most_lots);
+    for (int place = 0; place < 32; place++) held_to("realized", &l, &l.realized[place], most_money);
+    average_held("the highest price", l, 30, 100000000, true);
+    average_held("past the highest price", l, 30, 100000001, false);
+    average_held("lots without an average", l, 2, 0, false);
+    average_held("the first average without lots", l, 0, 1, false);
+    average_held("the last average without lots", l, 31, UINT32_MAX, false);
+    l.quantities[31] = -1;
+    no_ledger("the last lots without an average", l);
 }
 
 static void lines(wermazul_book_record k)
@@ -270,9 +394,11 @@ int main(void)
     deltas(k);
     books(k);
     emptied(k);
-    wermazul_ledger_record l = traded();
-    ledgers(l);
-    refused(l);
+    ledgers(traded());
+    wermazul_ledger_record two = pair();
+    pairs(two);
+    refused(two);
+    no_ledgers(two);
     lines(k);
     receivers(k);
     printf("%d answers held\n", asked);
