@@ -1,6 +1,9 @@
 //! The ledger.
 use wermazul::{Error, Fill, Position, PositionLedger, Side, MAX_PRICE, SYMBOLS};
 
+/// The limit of cash, commission and realized profit, on both sides of 0.
+const MOST_MONEY: i64 = 4_000_000_000_000_000_000;
+
 fn fill(symbol: u32, side: Side, quantity: u32, price: u32, commission: i64) -> Fill {
     Fill { symbol, side, quantity, price, commission }
 }
@@ -26,9 +29,8 @@ fn prices(given: &[(usize, u32)]) -> [u32; SYMBOLS] {
 fn new_ledgers() {
     let flat = PositionLedger { cash: -7, commission: 0, quantities: [0; SYMBOLS], averages: [0; SYMBOLS], realized: [0; SYMBOLS] };
     assert_eq!(PositionLedger::new(-7), Ok(flat));
-    let most = 4_000_000_000_000_000_000;
-    assert_eq!(PositionLedger::new(most).map(|l| l.cash), Ok(most));
-    assert_eq!(PositionLedger::new(most + 1), Err(Error::OutOfLimits));
+    assert_eq!(PositionLedger::new(MOST_MONEY).map(|l| l.cash), Ok(MOST_MONEY));
+    assert_eq!(PositionLedger::new(MOST_MONEY + 1), Err(Error::OutOfLimits));
     assert_eq!(PositionLedger::new(i64::MIN), Err(Error::OutOfLimits));
 }
 
@@ -142,25 +144,91 @@ fn prices_of_another_length() {
     assert_eq!(ledger.unrealized_pnl_total(&[1; 32]), Ok(0));
 }
 
+/// Long 3 of symbol 2 at 100 and short 2 of symbol 30 at 50, with a commission of 4 and of -1.
+fn pair() -> PositionLedger {
+    holding(1000, &[fill(2, Side::Bid, 3, 100, 4), fill(30, Side::Ask, 2, 50, -1)])
+}
+
+/// A refused change leaves cash, commission and all three rows of a ledger with open positions.
+#[test]
+fn refused_changes_leave_every_row() {
+    let fills = [
+        (fill(2, Side::Bid, 8, 100, -2), Error::InsufficientFunds { need: 798, have: 797 }),
+        (fill(32, Side::Ask, 1, 99, 0), Error::OutOfLimits),
+        (fill(2, Side::Ask, 1, 0, 0), Error::OutOfLimits),
+        (fill(30, Side::Ask, 1_000_000_000, 1, 0), Error::PastLimit),
+    ];
+    for (fill, error) in fills {
+        let mut ledger = pair();
+        assert_eq!(ledger.apply_fill(fill), Err(error));
+        assert_eq!(ledger, pair());
+    }
+    let deposits = [
+        (797, i64::MIN, Error::OutOfLimits),
+        (MOST_MONEY, 1, Error::PastLimit),
+        (-MOST_MONEY, -1_000_000_000_000_000_000, Error::PastLimit),
+    ];
+    for (cash, amount, error) in deposits {
+        let mut ledger = PositionLedger { cash, ..pair() };
+        assert_eq!(ledger.deposit(amount), Err(error));
+        assert_eq!(ledger, PositionLedger { cash, ..pair() });
+    }
+}
+
+#[test]
+fn numbers_at_their_limits() {
+    let to_limit: [fn(&mut PositionLedger); 9] = [
+        |l| l.cash = MOST_MONEY,
+        |l| l.cash = -MOST_MONEY,
+        |l| l.commission = MOST_MONEY,
+        |l| l.commission = -MOST_MONEY,
+        |l| l.quantities[2] = 1_000_000_000,
+        |l| l.quantities[2] = -1_000_000_000,
+        |l| l.averages[30] = MAX_PRICE,
+        |l| l.realized[0] = MOST_MONEY,
+        |l| l.realized[31] = -MOST_MONEY,
+    ];
+    for to_limit in to_limit {
+        let mut ledger = pair();
+        to_limit(&mut ledger);
+        assert!(ledger.is_ledger());
+    }
+}
+
 #[test]
 fn malformed_records_are_refused_everywhere() {
-    let spoil: [fn(&mut PositionLedger); 5] = [
-        |l| l.cash = 4_000_000_000_000_000_001,
+    let spoil: [fn(&mut PositionLedger); 13] = [
+        |l| l.cash = MOST_MONEY + 1,
+        |l| l.cash = i64::MIN,
+        |l| l.commission = -MOST_MONEY - 1,
         |l| l.commission = i64::MIN,
-        |l| l.averages[31] = 1,
+        |l| l.quantities[2] = 1_000_000_001,
+        |l| l.quantities[30] = -1_000_000_001,
         |l| l.quantities[0] = 1,
-        |l| l.realized[31] = -4_000_000_000_000_000_001,
+        |l| l.quantities[2] = 0,
+        |l| l.averages[30] = MAX_PRICE + 1,
+        |l| l.averages[2] = 0,
+        |l| l.averages[31] = 1,
+        |l| l.realized[0] = MOST_MONEY + 1,
+        |l| l.realized[31] = -MOST_MONEY - 1,
     ];
     for spoil in spoil {
-        let mut ledger = PositionLedger::new(1).unwrap();
+        let mut ledger = pair();
         assert!(ledger.is_ledger());
         spoil(&mut ledger);
-        let record = ledger.clone();
-        assert!(!ledger.is_ledger());
-        assert_eq!(ledger.apply_fill(fill(0, Side::Ask, 1, 1, 0)), Err(Error::NotARecord));
-        assert_eq!(ledger.deposit(1), Err(Error::NotARecord));
-        assert_eq!(ledger.checked_unrealized_pnl(0, 1), Err(Error::NotARecord));
-        assert_eq!(ledger.delta_neutral_check(&[1; 32]), Err(Error::NotARecord));
-        assert_eq!(ledger, record);
+        refused_everywhere(ledger);
     }
+}
+
+fn refused_everywhere(mut ledger: PositionLedger) {
+    let record = ledger.clone();
+    assert!(!ledger.is_ledger());
+    assert_eq!(ledger.apply_fill(fill(2, Side::Ask, 1, 1, 0)), Err(Error::NotARecord));
+    assert_eq!(ledger.deposit(1), Err(Error::NotARecord));
+    assert_eq!(ledger.checked_unrealized_pnl(2, 1), Err(Error::NotARecord));
+    assert_eq!(ledger.unrealized_pnl_total(&[1; 32]), Err(Error::NotARecord));
+    assert_eq!(ledger.net_liquidation_value(&[1; 32]), Err(Error::NotARecord));
+    assert_eq!(ledger.net_market_exposure(&[1; 32]), Err(Error::NotARecord));
+    assert_eq!(ledger.delta_neutral_check(&[1; 32]), Err(Error::NotARecord));
+    assert_eq!(ledger, record);
 }
