@@ -164,7 +164,3 @@ module _ (l : List ℕ) (d : BookDelta) (in-line : d ≡ deltaIn l) where
 
   pub not-whole : isWhole (delta d) ≡ false → refused 12 [] ≡ deltaRead (decode l)
   not-whole h = sym (no-delta l (λ w e. false≢true (sym h ∙ ap (λ (x : BookDelta). isWhole (delta x)) in-line ∙ w)))
-
-  pub not-its-line : same l (encode (delta d)) ≡ false → refused 12 [] ≡ deltaRead (decode l)
-  not-its-line h =
-      sym (no-delta l (λ w e. false≢true (sym h ∙ ap (λ (x : BookDelta). same l (encode (delta x))) in-line ∙ ap (same l) (sym e) ∙ same-self l)))

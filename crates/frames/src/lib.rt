@@ -1,6 +1,5 @@
-// The frames of the feed, and a delta's line, read and written: 01, side, action, price 4, quantity 4, sequence 8, check. It is read
-// leniently, tested, written again and compared, so that what is no digit, another kind, a wrong check byte and a missing line feed need no
-// test of their own. A snapshot's line stands in `lines`.
+// The frames of the feed, and a delta's line, read and written: 01, side, action, price 4, quantity 4, sequence 8, check. A line is read to bytes,
+// which are then tested: their own digits, the line feed, the kind, side and action, the sum, the limits. A snapshot's line stands in `lines`.
 ghost use mathlib.Core.Path.{_≡_};
 ghost use mathlib.Core.List.{[], _++_};
 ghost use Prim.Native.Nat.{_≤_};
@@ -9,7 +8,8 @@ ghost use Rattle.types.specs.Answers.{replyOfNumber};
 ghost use Rattle.types.specs.Written.{written};
 ghost use Rattle.wire.specs.Wire.{Part, be};
 ghost use Rattle.frames.specs.Frames.{delta, encode, isWhole};
-ghost use Rattle.frames.specs.Decode.{deltaIn, same, decode, deltaRead, replyOfDelta};
+ghost use Rattle.frames.specs.Decode.{decode, deltaRead, replyOfDelta};
+ghost use Rattle.frames.specs.Inner.Bytes.{deltaOf, isDelta};
 ghost use Rattle.frames.specs.Sent.{asSent, deltaLine};
 use deltas::BookDelta;
 use deltas::DeltaAction;
@@ -101,42 +101,59 @@ pub fn write_delta(d: BookDelta, out: &mut [u8]) -> NumberAnswer
     NumberAnswer::Refused(Refusal::OutOfLimits)
 }
 
-// The numbers that stand where a delta has its own.
-fn delta_in(line: &[u8]) -> BookDelta
-    requires { ⌜ 41 ≤ length (now line) ⌝ }
-    ensures { λ r. ⌜ r ≡ deltaIn (now (line .entry)) ⌝ }
+// The numbers that stand where a delta has its own, in the bytes of a line.
+fn delta_in(bytes: &[u8]) -> BookDelta
+    requires { ⌜ length (now bytes) ≡ 20 ⌝ }
+    ensures { λ r. ⌜ r ≡ deltaOf (now (bytes .entry)) ⌝ }
 {
-    let side = Side::of(wire::field(line, 1, 1) == 1);
-    let action = DeltaAction::of(wire::field(line, 2, 1) == 1);
+    let side = Side::of(bytes[1] == 1);
+    let action = DeltaAction::of(bytes[2] == 1);
     BookDelta {
         side,
-        price: wire::word(line, 3),
-        quantity: wire::word(line, 7),
+        price: wire::number(bytes, 3, 4) as u32,
+        quantity: wire::number(bytes, 7, 4) as u32,
         action,
-        sequence: wire::field(line, 11, 8),
+        sequence: wire::number(bytes, 11, 8),
     }
 }
 
-// Whether a line is this delta's.
-fn is_line_of(line: &[u8], d: BookDelta) -> bool
-    ensures { λ r. ⌜ r ≡ same (now (line .entry)) (encode (delta d)) ⌝ }
+// Whether bytes are of a delta's kind, with a side and an action, and add up to a multiple of 256.
+fn is_delta(bytes: &[u8]) -> bool
+    requires { ⌜ length (now bytes) ≡ 20 ⌝ }
+    ensures { λ r. ⌜ r ≡ isDelta (now (bytes .entry)) ⌝ }
 {
-    let mut own = [0u8; 41];
-    put_delta(d, &mut own);
-    wire::same(line, &own)
+    if bytes[0] != 1 {
+        return false;
+    }
+    if bytes[1] > 1 {
+        return false;
+    }
+    if bytes[2] > 1 {
+        return false;
+    }
+    wire::sum(bytes) % 256 == 0
 }
 
 // The delta that a line is; 12 for any other line. The line has its line feed.
 pub fn read_delta(line: &[u8]) -> DeltaAnswer
     ensures { λ r. ⌜ replyOfDelta r ≡ deltaRead (decode (now (line .entry))) ⌝ }
 {
-    if line.len() == 41 {
-        let d = delta_in(line);
-        if is_whole(d) {
-            if is_line_of(line, d) {
-                return DeltaAnswer::Is(d);
-            }
-        }
+    let mut bytes = [0u8; 20];
+    if line.len() != 41 {
+        return DeltaAnswer::Refused(Refusal::DamagedLine);
+    }
+    if line[40] != 10 {
+        return DeltaAnswer::Refused(Refusal::DamagedLine);
+    }
+    if !wire::read_bytes(line, 20, &mut bytes) {
+        return DeltaAnswer::Refused(Refusal::DamagedLine);
+    }
+    if !is_delta(&bytes) {
+        return DeltaAnswer::Refused(Refusal::DamagedLine);
+    }
+    let d = delta_in(&bytes);
+    if is_whole(d) {
+        return DeltaAnswer::Is(d);
     }
     DeltaAnswer::Refused(Refusal::DamagedLine)
 }

@@ -8,13 +8,13 @@ use lib.ListN.{length, take, getD}
 use lib.Seq.{take-suc}
 
 -- numbers that differ in no bit are the same
-xor-none : (a b : ℕ) → bitXor a b ≡ 0 → a ≡ b
+pub xor-none : (a b : ℕ) → bitXor a b ≡ 0 → a ≡ b
 xor-none a b e = omega (arith, xor-add-and a b, and-le-l a b, and-le-r a b)
 
-or-none-left : (a b : ℕ) → bitOr a b ≡ 0 → a ≡ 0
+pub or-none-left : (a b : ℕ) → bitOr a b ≡ 0 → a ≡ 0
 or-none-left a b e = omega (arith, or-add-and a b, and-le-l a b, and-le-r a b)
 
-or-none-right : (a b : ℕ) → bitOr a b ≡ 0 → b ≡ 0
+pub or-none-right : (a b : ℕ) → bitOr a b ≡ 0 → b ≡ 0
 or-none-right a b e = omega (arith, or-add-and a b, and-le-l a b, and-le-r a b)
 
 -- there are no bits so far only if the first i places are the same, and none at all where the lists are

@@ -84,7 +84,7 @@ pub small-sum : (k n at : ℕ) (l₀ l₁ : List ℕ) (s : ℕ) → Part (be k n
 small-sum k n at l₀ l₁ s p h = let m = length-be k n [] in omega (arith, p .small)
 
 -- a place written just after a part
-set-after : (p : List ℕ) (at x : ℕ) (d : List ℕ) → length p ≡ at → at < length d → set (p ++ drop at d) at x ≡ p ++ x ∷ drop (at + 1) d
+pub set-after : (p : List ℕ) (at x : ℕ) (d : List ℕ) → length p ≡ at → at < length d → set (p ++ drop at d) at x ≡ p ++ x ∷ drop (at + 1) d
 set-after p at x d e h =
     ap (λ (l : List ℕ). set (p ++ l) at x) (drop-cons d at 0 h) ∙ set-at p (getD d at 0) (drop (suc at) d) x at e
     ∙ ap (λ (n : ℕ). p ++ x ∷ drop n d) (sym (add-one at))

@@ -3,9 +3,10 @@
 ghost use mathlib.Core.Path.{_≡_};
 ghost use mathlib.Core.Bool.{true};
 ghost use mathlib.Core.List.{[], _∷_, _++_};
-ghost use Prim.Native.Nat.{_+_, _-_, _*_, _%_, _≤_, _<_};
+ghost use Prim.Native.Nat.{_+_, _-_, _*_, _%_, _^_, _≤_, _<_};
 ghost use lib.ListN.{length, take, drop};
-ghost use Rattle.wire.specs.Wire.{lineFeed, digit as digitOf, value as valueOf, digitsOf, be, field as fieldOf, column, Part};
+ghost use Rattle.wire.specs.Wire.{lineFeed, digit as digitOf, value as valueOf, digitsOf, be, byteSum, field as fieldOf, column, Part};
+ghost use Rattle.wire.specs.Inner.Spelling.{joined, Spelt};
 
 // A letter from 10 on: there the sum with 6 reaches 16, which costs a shift where a division by 10 costs a product.
 fn digit(d: u8) -> u8
@@ -15,11 +16,10 @@ fn digit(d: u8) -> u8
     48 + d + 7 * ((d + 6) / 16)
 }
 
-fn value(c: u8) -> u64
+fn value(c: u8) -> u8
     ensures { λ r. ⌜ r ≡ valueOf c ⌝ }
 {
-    let n = c as u64;
-    (n + 9 * (n / 64)) % 16
+    (c % 16 + 9 * (c / 64)) % 16
 }
 
 // The number in the k bytes from byte `at` on.
@@ -32,10 +32,58 @@ pub fn field(line: &[u8], at: usize, k: usize) -> u64
     let mut n: u64 = 0;
     let mut i = 0;
     while i < digits {
-        n = n * 16 + value(line[from + i]);
+        n = n * 16 + value(line[from + i]) as u64;
         i += 1;
     }
     n
+}
+
+// Reads the bytes that n pairs of digits spell to the front of `out`, and says whether these are the bytes' own digits. The bits in which they differ
+// are laid over each other, with no way out of the loop, so that it takes many digits a turn.
+pub fn read_bytes(line: &[u8], n: usize, out: &mut [u8]) -> bool
+    requires { ⌜ (2 * n ≤ length (now line)) × (n ≤ length (now out)) ⌝ }
+    ensures { λ r. ⌜ Spelt n (now (line .entry)) (now (out .entry)) (now (out .exit)) r ⌝ }
+{
+    let mut bits: u8 = 0;
+    let mut i = 0;
+    while i < n {
+        let a = line[2 * i];
+        let b = line[2 * i + 1];
+        let x = value(a);
+        let y = value(b);
+        out[i] = x * 16 + y;
+        bits |= (a ^ digit(x)) | (b ^ digit(y));
+        i += 1;
+    }
+    bits == 0
+}
+
+// The number in the k bytes from place `at` on.
+pub fn number(bytes: &[u8], at: usize, k: usize) -> u64
+    requires { ⌜ (at + k ≤ length (now bytes)) × (k ≤ 8) ⌝ }
+    ensures { λ r. ⌜ (r ≡ joined 0 (take k (drop at (now (bytes .entry))))) × (r < 256 ^ k) ⌝ }
+{
+    let mut n: u64 = 0;
+    let mut i = 0;
+    while i < k {
+        n = n * 256 + bytes[at + i] as u64;
+        i += 1;
+    }
+    n
+}
+
+// The bytes added up.
+pub fn sum(bytes: &[u8]) -> u64
+    requires { ⌜ length (now bytes) ≤ 4096 ⌝ }
+    ensures { λ r. ⌜ r ≡ byteSum (now (bytes .entry)) ⌝ }
+{
+    let mut sum: u64 = 0;
+    let mut i = 0;
+    while i < bytes.len() {
+        sum += bytes[i] as u64;
+        i += 1;
+    }
+    sum
 }
 
 // The number in the 4 bytes from byte `at` on.

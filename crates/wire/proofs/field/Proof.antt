@@ -53,6 +53,7 @@ field-spec =
     (λ c. omega arith)
     (λ c. omega arith)
     (λ c κs. tt)
+    (λ c. omega arith)
     add-n
     (λ c. omega arith)
     (λ c. omega arith)

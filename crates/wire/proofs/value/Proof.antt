@@ -1,4 +1,5 @@
--- `wire::value` meets its contract: its remainder is the definition's.
+-- `wire::value` meets its contract: taken modulo 16 first, c has the definition's remainder.
+use native.Mathlib.Omega.{arith}
 use borrow.Author.Needs.{needs}
 use Rattle.wire.specs.Wire.{value}
 use Rattle.wire.proofs.value.Statement.{statement}
@@ -6,7 +7,7 @@ use Rattle.wire.proofs.value.Tie as tie
 
 returns : tie.Need-returns
 unfolding value
-returns c = search needs
+returns c = omega arith
 
 pub value-spec : {M : Type 1} → statement M
 value-spec = tie.close (tie.spec (λ c. search needs) (λ c. search needs) returns)
