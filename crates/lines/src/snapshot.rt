@@ -1,5 +1,5 @@
-// A snapshot's line: 02, sequence 8, bid count, ask count, levels as price 4 and quantity 4, bids then asks, check. It is read as a delta's
-// is: leniently, into tables, which are tested to be a book, written again and compared. It is written from a book that is lent as its rows.
+// A snapshot's line: 02, sequence 8, bid count, ask count, levels as price 4 and quantity 4, bids then asks, check. It is read leniently, into tables,
+// which are tested to be a book, written again and compared. It is written from a book that is lent as its rows.
 ghost use mathlib.Core.Path.{_≡_};
 ghost use mathlib.Core.Bool.{true};
 ghost use mathlib.Core.List.{[], _++_};
