@@ -9,11 +9,11 @@ use lib.IntN.{ℤ}
 use lib.ListN.{length}
 use borrow.Author.Tests.{leb-true, eqb-true}
 use Rattle.types.specs.Limits.{maxLevels, lastSequence}
-use Rattle.types.specs.Replies.{Reply, done, refused}
+use Rattle.types.specs.Replies.{done, refused}
 use Rattle.types.specs.declared.Side.{Side}
 use Rattle.types.specs.declared.Side.the-variants.{Bid, Ask}
 use Rattle.types.specs.declared.PriceLevel.{PriceLevel}
-use Rattle.types.proofs.Once.{one-outcome}
+use Rattle.types.proofs.Once.{never, one-outcome}
 use Rattle.levels.specs.Order.{inOrder}
 use Rattle.levels.specs.Table.{level, pricesOf, table}
 use Rattle.levels.specs.Formed.{every, inLimits, wellFormed}
@@ -31,10 +31,6 @@ use Rattle.orderbook.specs.Apply.{Change, changeOf, kept, acted, afterDe
 use Rattle.orderbook.specs.Kept.{Keeps, DeltaKeeps, ClearKeeps, SideKeeps, RemoveOfAny}
 use Rattle.orderbook.proofs.Bests.{apart-none}
 use Rattle.orderbook.proofs.Steps.{sides}
-
--- no reply is both
-never : {P : Type 0} (r : Reply (Unit {0})) (n : ℕ) (vs : List ℤ) → r ≡ done tt → r ≡ refused n vs → P
-never r n vs e f = let z : _≡_ {A = ℕ} 0 1 = cc in absurd (omega arith)
 
 module _ (b : OrderBook) (next : ℕ) where
   keeps-refusal : (n : ℕ) (vs : List ℤ) → Keeps b next (kept b n vs)

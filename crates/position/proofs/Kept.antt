@@ -3,13 +3,13 @@ use Prim.Native.Nat.{ℕ}
 use mathlib.Core.Path.{_≡_, refl, _∙_}
 use mathlib.Core.Bool.{Bool, true, false, not, cond, and-eq-true-iff}
 use mathlib.Core.List.{List, [], _∷_}
-use native.Mathlib.Omega.{arith}
 use borrow.Author.Tests.{eqb-true}
 use lib.Dec.{eqb}
 use lib.IntN.{ℤ, pos, natAbs, _+ℤ_}
 use Rattle.amount.specs.Sums.{allTo}
 use Rattle.types.specs.Limits.{sizedWithin, maxDeposit, maxPosition, isPrice}
-use Rattle.types.specs.Replies.{Reply, done, refused}
+use Rattle.types.specs.Replies.{done, refused}
+use Rattle.types.proofs.Once.{never}
 use Rattle.holding.specs.Holding.{isPosition, isFill, charge, positionAfter}
 use Rattle.holding.specs.Rows.{arePositions}
 use Rattle.position.specs.Ledger.{positionAt, isMoney, isLedger, Change, changed, kept, provided, fresh, created, cashAfter, bearsFill, isShort, filled, settled, booked, withCash, deposited}
@@ -25,10 +25,6 @@ use Rattle.position.proofs.Ledgers.{ledger-in}
 ledger-of : (l : PositionLedger) → isMoney (l .cash .value) ≡ true → isMoney (l .commission .value) ≡ true → RowsIn (l .quantities) (l .averages) (l .realized) → isLedger l ≡ true
 unfolding isLedger
 ledger-of l hc hk h = rw (hc, hk) (rows-of (l .quantities) (l .averages) (l .realized) h)
-
--- no reply is both
-never : {P : Type 0} (r : Reply (Unit {0})) (n : ℕ) (vs : List ℤ) → r ≡ done tt → r ≡ refused n vs → P
-never r n vs e f = let z : _≡_ {A = ℕ} 0 1 = cc in absurd (omega arith)
 
 module _ (l : PositionLedger) where
   keeps-done : (m : PositionLedger) → isLedger m ≡ true → Keeps l (changed m)
@@ -63,7 +59,7 @@ fill-keeps l f =
 provided-done : (l : PositionLedger) (t : Bool) (n : ℕ) (vs : List ℤ) (next : Change)
     → provided l t n vs next .reply ≡ done tt → (t ≡ true) × (next .reply ≡ done tt) × (provided l t n vs next .ledger ≡ next .ledger)
 provided-done l true n vs next e = (refl, e, refl)
-provided-done l false n vs next e = let z : _≡_ {A = ℕ} 0 1 = cc in absurd (omega arith)
+provided-done l false n vs next e = never (refused n vs) n vs e refl
 
 -- a taken fill leaves a ledger: the one after the fill
 pub fill-done : (l : PositionLedger) (f : Fill) → booked l f .reply ≡ done tt → (booked l f .ledger ≡ filled l f) × (isLedger (filled l f) ≡ true) × (isFill f ≡ true)

@@ -1,0 +1,5 @@
+pub mod Numbers
+pub mod Steps
+pub mod Walk
+pub mod Meaning
+pub mod Once

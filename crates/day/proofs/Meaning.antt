@@ -1,0 +1,80 @@
+-- What a day's booking means (specs/Meaning.antt), from what any run of changes means.
+use Prim.Native.Nat.{ℕ, _<_}
+use mathlib.Core.Path.{_≡_, refl, sym, ap, _∙_}
+use mathlib.Core.Bool.{Bool, true, false, cond}
+use mathlib.Core.List.{List, [], _∷_, _++_}
+use native.Mathlib.Omega.{arith}
+use lib.IntN.{ℤ}
+use lib.ListN.{length, take, getD}
+use Rattle.types.specs.Replies.{Reply, done, refused}
+use Rattle.types.specs.InOrder.{Run, ended, andThen, ifDone, counting, inOrder, afterAll}
+use Rattle.types.proofs.Once.{never}
+use Rattle.types.proofs.InOrders.{run-stands, run-each, run-all, run-first, run-keeps, run-append}
+use Rattle.holding.specs.declared.Fill.{Fill}
+use Rattle.position.specs.declared.PositionLedger.{PositionLedger}
+use Rattle.position.specs.Ledger.{isLedger, booked, bookedAll}
+use Rattle.position.proofs.Kept.{fill-keeps}
+use Rattle.day.specs.Day.{ledgerAfter, replyTo, bookedInOrder, dayBooked}
+use Rattle.day.specs.Meaning.{AsSingly, EachTaken, AllTaken, Refused, FirstRefused, DayKeeps, AtOnce, TestedFirst, InTwoCalls}
+
+-- booking singly is offering each in order
+singly : (l : PositionLedger) (fs : List Fill) → afterAll ledgerAfter l fs ≡ bookedAll l fs
+unfolding afterAll bookedAll
+singly l [] = refl
+singly l (f ∷ fs) = singly (ledgerAfter l f) fs
+
+-- a day by the test of its record
+module _ (l : PositionLedger) (fs : List Fill) where
+  of-ledger : isLedger l ≡ true → dayBooked l fs ≡ bookedInOrder l fs
+  unfolding dayBooked
+  of-ledger h = rw h
+
+  of-none : isLedger l ≡ false → dayBooked l fs ≡ ended l (refused 1 [])
+  unfolding dayBooked
+  of-none h = rw h
+
+pub as-singly : AsSingly
+unfolding dayBooked bookedAll
+as-singly l fs = by (isLedger l)
+  where
+    by : (t : Bool) → let day = cond t (bookedInOrder l fs) (ended l (refused 1 [])) in day .stands ≡ bookedAll l (take (day .taken) fs)
+    by true = run-stands ledgerAfter replyTo l fs ∙ singly l _
+    by false = refl
+
+pub each-taken : EachTaken
+unfolding dayBooked
+each-taken l fs d i = by (isLedger l)
+  where
+    by : (t : Bool) → i < cond t (bookedInOrder l fs) (ended l (refused 1 [])) .taken → booked (bookedAll l (take i fs)) (getD fs i d) .reply ≡ done tt
+    by true h = rw (sym (singly l (take i fs))) (run-each ledgerAfter replyTo d l fs i h)
+    by false h = absurd (omega arith)
+
+pub all-taken : AllTaken
+unfolding dayBooked
+all-taken l fs = by (isLedger l)
+  where
+    by : (t : Bool) → let day = cond t (bookedInOrder l fs) (ended l (refused 1 [])) in day .reply ≡ done tt → day .taken ≡ length fs
+    by true e = run-all ledgerAfter replyTo l fs e
+    by false e = never (refused 1 []) 1 [] e refl
+
+pub first-refused : FirstRefused
+first-refused l fs d n vs h e =
+    let same = of-ledger l fs h in
+    let r = run-first ledgerAfter replyTo d l fs n vs (rw same at e) in
+    record { is-there = rw same (r .0); its-own = rw same (r .1); changes-nothing = rw same (fill-keeps _ _ .same n vs (r .1)) }
+
+pub day-keeps : DayKeeps
+day-keeps l fs h = rw (of-ledger l fs h) (run-keeps ledgerAfter replyTo (λ (m : PositionLedger). isLedger m ≡ true) (λ m f _. fill-keeps m f .ledger) l fs h)
+
+pub tested-first : TestedFirst
+unfolding inOrder
+tested-first l = record { malformed = λ h fs. of-none l fs h; no-fills = λ h. of-ledger l [] h }
+
+pub in-two-calls : InTwoCalls
+in-two-calls l fs gs = by (isLedger l) refl
+  where
+    by : (t : Bool) → isLedger l ≡ t → dayBooked l (fs ++ gs) ≡ andThen (dayBooked l fs) (λ (m : PositionLedger). dayBooked m gs)
+    by true h =
+        of-ledger l (fs ++ gs) h ∙ run-append ledgerAfter replyTo l fs gs ∙
+        rw (of-ledger l fs h, of-ledger (bookedInOrder l fs .stands) gs (rw (of-ledger l fs h) at (day-keeps l fs h)))
+    by false h = rw (of-none l (fs ++ gs) h, of-none l fs h)

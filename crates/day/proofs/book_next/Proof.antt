@@ -1,0 +1,30 @@
+-- `book_next`: a day that is refused stays as it is, and another takes the fill by value.
+use Prim.Native.Nat.{ℕ}
+use mathlib.Core.Path.{ap}
+use borrow.Author.Needs.{needs}
+use Rattle.types.specs.InOrder.{Run}
+use Rattle.position.specs.Ledger.{Change}
+use Rattle.position.specs.declared.PositionLedger.{PositionLedger}
+use Rattle.day.specs.Inner.Walk.{counted, nextOf}
+use Rattle.day.proofs.book_next.Statement.{statement}
+use Rattle.day.proofs.book_next.Tie as tie
+
+-- the day after a fill that made this change
+abbrev offered : ℕ → Change → Run PositionLedger
+offered n x = record { stands = x .ledger; taken = counted (x .reply) n; reply = x .reply }
+
+pub book-next-spec : {M : Type 1} → statement M
+unfolding nextOf
+book-next-spec =
+    tie.close
+    (tie.spec
+    (λ c. search needs)
+    (λ c. search needs)
+    (λ c. rw (c .enum-told2 .given .1))
+    (λ c κs. search needs)
+    (λ c κs. search needs)
+    (λ c.
+    let b = c .before .before in
+    let n = b .before .before .before .before .args .day .taken in
+    rw (c .count .ensures, b .before .before .enum-told .given .1)
+    (ap (λ (x : Change). offered n x) (b .apply-fill .ensures))))

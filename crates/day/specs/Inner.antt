@@ -1,0 +1,2 @@
+-- How the walk over lent fills goes.
+pub mod Walk
