@@ -11,6 +11,7 @@ from pathlib import Path
 ROOT = Path(__file__).resolve().parent.parent
 EXCEPTIONS = {
     "lent::apply_delta": "specs/Lent writes its promise out",
+    "day::apply_fills": "specs/Days writes its promise out",
     "rows::row_of": "inner: hands a row on",
     "rows::apply_to_book": "inner: asks that the rows are known to make a book",
     "feeding::take": "docs/PROMISES.md, Exceptions",

@@ -7,6 +7,7 @@ use lib.IntN.{ℤ}
 use lib.ListN.{getD}
 use Rattle.amount.specs.Whole.{amount}
 use Rattle.types.specs.Replies.{Reply, refused, ifRecord}
+use Rattle.types.specs.InOrder.{Run}
 use Rattle.holding.specs.declared.Fill.{Fill}
 use Rattle.position.specs.declared.PositionLedger.{PositionLedger}
 use Rattle.position.specs.Ledger.{Change, isLedger, booked}
@@ -33,6 +34,16 @@ fillOf symbol side quantity price commission =
 unfoldable pub bookedBy : PositionLedger → ℕ → ℕ → ℕ → ℕ → ℤ → Change
 bookedBy l symbol side quantity price commission =
     cond (leb side 1) (booked l (fillOf symbol side quantity price commission)) (record { ledger = l; reply = unnamed l })
+
+-- a ledger, how many fills it took, and an answer in numbers
+pub record LedgerDay : Type 0 where
+  pub ledger : PositionLedger
+  pub taken : ℕ
+  pub told : Told
+
+-- a ledger after a day's fills, and the reply as numbers
+abbrev pub dayTold : Run PositionLedger → LedgerDay
+dayTold d = record { ledger = d .stands; taken = d .taken; told = tell nothing (d .reply) }
 
 -- what the ledger is worth at prices, in order: unrealized_pnl_total, net_liquidation_value, net_market_exposure, delta_neutral_check
 abbrev pub worths : PositionLedger → List ℕ → List Told

@@ -4,8 +4,10 @@ ghost use Rattle.types.specs.Answers.{replyOfOutcome};
 ghost use Rattle.position.specs.Ledger.{isLedger, created, deposited};
 ghost use Rattle.position.specs.Lent.{lentLedger, leftLedger};
 ghost use Rattle.valuation.specs.Values.{unrealized};
+ghost use Rattle.day.specs.Numbers.{dayBookedBy};
 ghost use Rattle.told.specs.Numbers.{tell, nothing, oneAmount};
-ghost use Rattle.exports.specs.Ledgers.{unnamed, ledgerTold, fillOf, bookedBy, worthBy};
+ghost use Rattle.exports.specs.Ledgers.{unnamed, ledgerTold, fillOf, bookedBy, dayTold, worthBy};
+use crate::DayTold;
 use crate::LedgerTold;
 use crate::TotalsTold;
 use amount::Amount;
@@ -110,6 +112,27 @@ pub extern "C" fn wermazul_apply_fill(
     }
     let fill = fill_of(symbol, side, quantity, price, Amount { value: commission });
     given(rows::apply_fill(quantities, averages, realized, totals, fill))
+}
+
+// A day's fills on the rows, in order, until one is refused: five numbers each, the symbol, the side, the quantity, the price and the commission.
+#[no_mangle]
+pub extern "C" fn wermazul_apply_fills(
+    quantities: &mut [i64; 32],
+    averages: &mut [u32; 32],
+    realized: &mut [i64; 32],
+    totals: Totals,
+    numbers: &[i64],
+) -> DayTold
+    ensures { λ r. ⌜ record { ledger = leftLedger quantities averages realized (r .totals); taken = r .taken; told = r .told } ≡ dayTold (dayBookedBy (lentLedger quantities averages realized totals) (now (numbers .entry))) ⌝ }
+{
+    let booked = day::rows::apply_fills(quantities, averages, realized, totals, numbers);
+    let totals = booked.totals;
+    let outcome = booked.outcome;
+    DayTold {
+        totals,
+        taken: booked.taken,
+        told: Told::of_outcome(outcome),
+    }
 }
 
 #[no_mangle]

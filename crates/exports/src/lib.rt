@@ -28,6 +28,14 @@ pub struct TotalsTold {
     pub told: Told,
 }
 
+// The totals beside a ledger's rows after a day's fills, how many of them were taken, and the answer: 0, or the refusal of the first that was not.
+#[repr(C)]
+pub struct DayTold {
+    pub totals: Totals,
+    pub taken: u64,
+    pub told: Told,
+}
+
 // A receiver: 0 waiting, 1 live, and the book that it holds. Another number is no receiver.
 #[repr(C)]
 pub struct Held {

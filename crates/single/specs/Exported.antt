@@ -8,8 +8,10 @@ use Rattle.told.specs.declared.Told.{Told}
 use Rattle.numbered.specs.declared.CountsTold.{CountsTold}
 use Rattle.exports.specs.declared.LedgerTold.{LedgerTold}
 use Rattle.exports.specs.declared.TotalsTold.{TotalsTold}
+use Rattle.exports.specs.declared.DayTold.{DayTold}
 use Rattle.exports.specs.declared.TurnTold.{TurnTold}
 use Rattle.numbered.specs.Books.{BookTold}
+use Rattle.exports.specs.Ledgers.{LedgerDay}
 use Rattle.exports.specs.Receivers.{HeldTold}
 use Rattle.exports.proofs.layout as Y
 use Rattle.exports.proofs.book as B
@@ -59,6 +61,18 @@ one-booked d v w x y p q =
     let t : x .told ≡ y .told = ap (λ (l : LedgerTold). l .told) e in
     (λ i. record { totals = n i; told = t i }, ap (λ (l : LedgerTold). ledgerRowsIn (l .ledger)) e)
 
+-- and after a day's fills
+abbrev dayLeft : LedgerRows → DayTold → LedgerDay
+dayLeft w r = record { ledger = ledgerOfRows w (r .totals); taken = r .taken; told = r .told }
+
+one-day-left : (d : LedgerDay) (v w : LedgerRows) (x y : DayTold) → dayLeft v x ≡ d → dayLeft w y ≡ d → (x ≡ y) × (v ≡ w)
+one-day-left d v w x y p q =
+    let e : dayLeft v x ≡ dayLeft w y = p ∙ sym q in
+    let n : x .totals ≡ y .totals = ap (λ (l : LedgerDay). totalsIn (l .ledger)) e in
+    let k : x .taken ≡ y .taken = ap (λ (l : LedgerDay). l .taken) e in
+    let t : x .told ≡ y .told = ap (λ (l : LedgerDay). l .told) e in
+    (λ i. record { totals = n i; taken = k i; told = t i }, ap (λ (l : LedgerDay). ledgerRowsIn (l .ledger)) e)
+
 -- the archive
 module _ where
   pub wermazul-layout : One Y.wermazul_layout.Reads.Learnt
@@ -90,7 +104,7 @@ module _ where
   pub wermazul-list : OneWith B.wermazul_list.Reads.Learnt (λ κs s. now (s .1 .1 .1 .1 .1 .1 .1 .1 .1 .0))
   wermazul-list κs a s t x y = one-left _ x y _ _
 
--- the ledger: of a fill the three rows too
+-- the ledger: of a fill and of a day's fills the three rows too
 module _ where
   pub wermazul-ledger : One P.wermazul_ledger.Reads.Learnt
   wermazul-ledger κs a s t = one _
@@ -100,6 +114,9 @@ module _ where
 
   pub wermazul-apply-fill : OneWith P.wermazul_apply_fill.Reads.Learnt {X = LedgerRows} (λ κs s. (now (s .0), now (s .1 .0), now (s .1 .1 .0)))
   wermazul-apply-fill κs a s t x y = one-booked _ _ _ x y
+
+  pub wermazul-apply-fills : OneWith P.wermazul_apply_fills.Reads.Learnt {X = LedgerRows} (λ κs s. (now (s .0), now (s .1 .0), now (s .1 .1 .0)))
+  wermazul-apply-fills κs a s t x y = one-day-left _ _ _ x y
 
   pub wermazul-deposit : One P.wermazul_deposit.Reads.Learnt
   wermazul-deposit κs a s t x y p q = one-booked _ _ _ x y p q .0

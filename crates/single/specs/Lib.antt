@@ -9,6 +9,7 @@ pub mod Questions
 pub mod Names
 pub mod Listings
 pub mod Ledgers
+pub mod Days
 pub mod Lines
 pub mod Receivers
 pub mod Exported
