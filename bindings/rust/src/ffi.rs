@@ -39,6 +39,14 @@ pub(crate) struct TotalsTold {
     pub told: Told,
 }
 
+/// The totals after a day's fills, how many of them were taken, and the answer.
+#[repr(C)]
+pub(crate) struct DayTold {
+    pub totals: Totals,
+    pub taken: u64,
+    pub told: Told,
+}
+
 /// A new ledger.
 #[repr(C)]
 pub(crate) struct LedgerTold {
@@ -179,6 +187,14 @@ extern "C" {
         price: u32,
         commission: i64,
     ) -> TotalsTold;
+    pub(crate) fn wermazul_apply_fills(
+        quantities: *mut Amounts,
+        averages: *mut Averages,
+        realized: *mut Amounts,
+        totals: Totals,
+        numbers: *const i64,
+        length: usize,
+    ) -> DayTold;
     pub(crate) fn wermazul_deposit(
         quantities: *const Amounts,
         averages: *const Averages,

@@ -31,6 +31,6 @@ pub use error::Error;
 pub use feed::{line_end, line_kind, read_line, write_delta, write_snapshot, Frame, LineKind, MAX_LINE};
 pub use linked::{archive, OtherArchive, Version};
 pub use orderbook::{Answer, BookDelta, DeltaAction, Levels, Listing, OrderBook, PriceLevel, Question, Quote};
-pub use position::{Fill, Position, PositionDirection, PositionLedger};
+pub use position::{Fill, FillsError, Position, PositionDirection, PositionLedger};
 pub use receiver::Receiver;
 pub use types::{Price, Quantity, Quotient, Side, Symbol, MAX_LEVELS, MAX_PRICE, MAX_QUANTITY, SYMBOLS};

@@ -5,6 +5,7 @@ use crate::error::Error;
 use crate::ffi;
 use crate::linked::require_ours;
 use crate::types::{Price, Quantity, Side, Symbol, SYMBOLS};
+use std::fmt;
 
 /// A trade to book.
 #[derive(Clone, Copy, Debug, PartialEq, Eq)]
@@ -22,6 +23,12 @@ pub struct Fill {
 }
 
 impl Fill {
+    /// The numbers that it crosses as in a list of fills.
+    fn numbers(&self) -> [i64; 5] {
+        let Fill { symbol, side, quantity, price, commission } = *self;
+        [symbol.into(), side as i64, quantity.into(), price.into(), commission]
+    }
+
     /// A trade without commission.
     pub fn new(symbol: Symbol, side: Side, quantity: Quantity, price: Price) -> Fill {
         Fill::with_commission(symbol, side, quantity, price, 0)
@@ -30,6 +37,27 @@ impl Fill {
     /// A trade with its commission.
     pub fn with_commission(symbol: Symbol, side: Side, quantity: Quantity, price: Price, commission: i64) -> Fill {
         Fill { symbol, side, quantity, price, commission }
+    }
+}
+
+/// Why a list of fills was not taken to its end. The fills before the refused one are booked, and it changed nothing.
+#[derive(Clone, Copy, Debug, PartialEq, Eq)]
+pub struct FillsError {
+    /// How many fills were taken: the place of the refused one in the list, from 0.
+    pub taken: usize,
+    /// Its refusal; 1 if the record is no ledger.
+    pub error: Error,
+}
+
+impl fmt::Display for FillsError {
+    fn fmt(&self, f: &mut fmt::Formatter<'_>) -> fmt::Result {
+        write!(f, "{} taken, then {}", self.taken, self.error)
+    }
+}
+
+impl std::error::Error for FillsError {
+    fn source(&self) -> Option<&(dyn std::error::Error + 'static)> {
+        Some(&self.error)
     }
 }
 
@@ -92,10 +120,15 @@ impl PositionLedger {
         ffi::Totals { cash: self.cash, commission: self.commission }
     }
 
+    /// What a call left beside the rows.
+    fn become_of(&mut self, totals: ffi::Totals) {
+        self.cash = totals.cash;
+        self.commission = totals.commission;
+    }
+
     /// What a call left beside the rows, and its answer.
     fn become_told(&mut self, after: ffi::TotalsTold) -> Result<(), Error> {
-        self.cash = after.totals.cash;
-        self.commission = after.totals.commission;
+        self.become_of(after.totals);
         after.told.done()
     }
 
@@ -108,6 +141,20 @@ impl PositionLedger {
         let after =
             unsafe { ffi::wermazul_apply_fill(quantities, averages, realized, totals, symbol, side as u64, quantity, price, commission) };
         self.become_told(after)
+    }
+
+    /// Books fills in order, until one is refused: `Ok` with how many there were, all of them taken, or how many were taken before the refused one, with
+    /// its refusal. The ledger is then as if those had been booked by [`apply_fill`](Self::apply_fill), one by one. A record that is no
+    /// ledger is refused with 1, with no fills too.
+    pub fn apply_fills(&mut self, fills: &[Fill]) -> Result<usize, FillsError> {
+        let numbers: Vec<i64> = fills.iter().flat_map(Fill::numbers).collect();
+        let totals = self.totals();
+        let PositionLedger { quantities, averages, realized, .. } = self;
+        // SAFETY: the rows are three fields of one record, of 32 places each, lent to this call alone, and the numbers are one slice, lent for the call.
+        let after = unsafe { ffi::wermazul_apply_fills(quantities, averages, realized, totals, numbers.as_ptr(), numbers.len()) };
+        self.become_of(after.totals);
+        let taken = after.taken as usize;
+        after.told.done().map(|()| taken).map_err(|error| FillsError { taken, error })
     }
 
     /// Pays cash in, or out if the amount is negative. A refused deposit leaves the ledger as it was.
