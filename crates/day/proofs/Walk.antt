@@ -3,7 +3,7 @@ use Prim.Native.Nat.{ℕ, suc, _+_, _%_, _^_, _<_}
 use mathlib.Core.Path.{_≡_, refl, sym, ap, _∙_}
 use mathlib.Core.Bool.{Bool, true, false, cond}
 use mathlib.Core.List.{List, [], _∷_}
-use native.Mathlib.Nat.{zero-add, mod-eq-of-lt}
+use native.Mathlib.Nat.{add-zero, mod-eq-of-lt}
 use native.Mathlib.Numerals.{add-one}
 use native.Mathlib.Omega.{arith}
 use lib.IntN.{ℤ}
@@ -48,7 +48,9 @@ all-open l k (f ∷ fs) h = by (replyTo l f) refl (λ m j. all-open m j fs)
     by (done u) e rest =
         rw (e, mod-eq-of-lt {n = k + 1} {m = 2 ^ 64} (omega arith))
         (rest (ledgerAfter l f) (k + 1) (omega arith) ∙ goes-on l f fs k _ refl (booked l f) refl e)
-    by (refused n vs) e rest = rw e (all-refused (ledgerAfter l f) k n vs fs ∙ rw (sym e) (stops l f fs k _ refl (booked l f) refl n vs e))
+    by (refused n vs) e rest =
+        rw (e, add-zero k, mod-eq-of-lt {n = k} {m = 2 ^ 64} (omega arith))
+        (all-refused (ledgerAfter l f) k n vs fs ∙ rw (sym e) (stops l f fs k _ refl (booked l f) refl n vs e))
 
 pub all-day : (l : PositionLedger) (fs : List Fill) → length fs < 2 ^ 64 → allOf (begun l) fs ≡ dayBooked l fs
 unfolding dayBooked

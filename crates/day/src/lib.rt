@@ -44,13 +44,13 @@ fn begin(ledger: PositionLedger) -> DayBooked
     }
 }
 
-// How many were taken, after a fill that ended so.
-fn count(outcome: Outcome, taken: u64) -> u64
-    ensures { λ r. ⌜ r ≡ counted (replyOfOutcome outcome) taken ⌝ }
+// 1 for a fill that was taken, 0 for another.
+fn counts(outcome: Outcome) -> u64
+    ensures { λ r. ⌜ r ≡ counted (replyOfOutcome outcome) ⌝ }
 {
     match outcome {
-        Outcome::Done => std::num::wrapping_add_u64(taken, 1),
-        Outcome::Refused(why) => taken,
+        Outcome::Done => 1,
+        Outcome::Refused(why) => 0,
     }
 }
 
@@ -68,7 +68,7 @@ fn book_next(day: DayBooked, fill: Fill) -> DayBooked
     let outcome = booked.outcome;
     DayBooked {
         ledger: after,
-        taken: count(outcome, day.taken),
+        taken: std::num::wrapping_add_u64(day.taken, counts(outcome)),
         outcome,
     }
 }

@@ -101,8 +101,9 @@ fn book_all(
 {
     let mut standing = totals;
     let mut taken = 0;
-    let mut at = 0;
-    while at < numbers.len() {
+    let mut left = numbers.len();
+    while left > 0 {
+        let at = numbers.len() - left;
         let fill = fill_at(numbers, at);
         let done = rows::apply_fill(quantities, averages, realized, standing, fill);
         let outcome = done.outcome;
@@ -115,7 +116,7 @@ fn book_all(
             };
         };
         taken += 1;
-        at += 5;
+        left -= 5;
     }
     RowsDay {
         totals: standing,

@@ -12,15 +12,15 @@ use Rattle.day.specs.Day.{ledgerAfter, replyTo}
 abbrev pub begun : PositionLedger → Run PositionLedger
 begun l = ended l (ifRecord (isLedger l) (done tt))
 
--- how many were taken, after one that is answered so; a u64 counts them
-abbrev pub counted : Reply (Unit {0}) → ℕ → ℕ
-counted reply n = ifDone reply ((n + 1) % 2 ^ 64) n
+-- 1 for a fill that was taken, 0 for another
+abbrev pub counted : Reply (Unit {0}) → ℕ
+counted reply = ifDone reply 1 0
 
--- one fill more
+-- one fill more; a u64 counts them
 unfoldable pub nextOf : Run PositionLedger → Fill → Run PositionLedger
 nextOf day f =
     ifDone (day .reply)
-    (record { stands = ledgerAfter (day .stands) f; taken = counted (replyTo (day .stands) f) (day .taken); reply = replyTo (day .stands) f })
+    (record { stands = ledgerAfter (day .stands) f; taken = (day .taken + counted (replyTo (day .stands) f)) % 2 ^ 64; reply = replyTo (day .stands) f })
     day
 
 -- all of them, in order
