@@ -234,6 +234,26 @@ static void fill(wermazul_ledger_record *ledger)
     tell_ledger("wermazul_apply_fill", ledger, after.told);
 }
 
+/* A list of fills, at times with a number replaced, or with numbers left over. */
+static void book_list(wermazul_ledger_record *ledger)
+{
+    wermazul_fill fills[12];
+    for (int i = 0; i < 12; i++) {
+        int64_t symbol = (int64_t)below(4), side = (int64_t)below(2), quantity = (int64_t)below(100), price = 1 + (int64_t)below(500);
+        int64_t commission = (int64_t)below(50) - 10;
+        wermazul_fill next = {symbol, side, quantity, price, commission};
+        fills[i] = next;
+    }
+    uint64_t place = below(12), replaced = below(10), value = below(2) ? number(200) : below(0);
+    int64_t *fields[5] = {&fills[place].symbol, &fills[place].side, &fills[place].quantity, &fills[place].price, &fills[place].commission};
+    if (replaced < 5) *fields[replaced] = (int64_t)value;
+    uint64_t count = below(13), length = below(9) ? 5 * count : below(61);
+    wermazul_day_told after = wermazul_apply_fills(WERMAZUL_LEDGER_ROWS(*ledger), totals_of(ledger), &fills->symbol, length);
+    set_totals(ledger, after.totals);
+    printf("wermazul_apply_fills %" PRIu64 "\n", after.taken);
+    tell_ledger("wermazul_apply_fills", ledger, after.told);
+}
+
 static void deposit(wermazul_ledger_record *ledger)
 {
     int64_t amount = (int64_t)(number(1000000) - 300000);
@@ -264,6 +284,7 @@ static void account(void)
     tell_ledger("wermazul_ledger", &ledger, made.told);
     for (uint64_t left = below(60); left > 0; left--) {
         fill(&ledger);
+        if (below(6) == 0) book_list(&ledger);
         if (below(8) == 0) deposit(&ledger);
         if (below(4) == 0) value(&ledger);
     }
@@ -271,6 +292,7 @@ static void account(void)
         wermazul_ledger_record spoilt = ledger;
         spoil_ledger(&spoilt);
         value(&spoilt);
+        book_list(&spoilt);
         fill(&spoilt);
         deposit(&spoilt);
     }

@@ -56,6 +56,8 @@ static void layouts(void)
     expect("books", sizeof(wermazul_levels) == 1032 && sizeof(wermazul_book_record) == 2072);
     expect("counts", sizeof(wermazul_counts) == 24 && sizeof(wermazul_counts_told) == 104);
     expect("totals", sizeof(wermazul_totals) == 16 && sizeof(wermazul_totals_told) == 96);
+    expect("days", sizeof(wermazul_day_told) == 104 && offsetof(wermazul_day_told, taken) == 16 && offsetof(wermazul_day_told, told) == 24);
+    expect("fills", sizeof(wermazul_fill) == 40 && offsetof(wermazul_fill, side) == 8 && offsetof(wermazul_fill, commission) == 32);
     expect("ledgers", sizeof(wermazul_ledger_record) == 656 && sizeof(wermazul_ledger_told) == 736);
     expect("rows", offsetof(wermazul_ledger_record, averages) == 272 && offsetof(wermazul_ledger_record, realized) == 400);
     expect("lines", sizeof(wermazul_line_told) == 2184 && offsetof(wermazul_line_told, sequence) == 104);
@@ -194,6 +196,26 @@ static void ledgers(wermazul_ledger_record l)
     expect("deposited", same_totals(next.totals, left) && wermazul_is_ledger(WERMAZUL_LEDGER_ROWS(l), next.totals));
 }
 
+/* The same fills in one call; then a list that ends with the second of three, the first of which stands. */
+static void days(wermazul_ledger_record l)
+{
+    static const wermazul_fill fills[4] = {{31, 0, 3, 100, 2}, {31, 0, 2, 101, 0}, {31, 1, 4, 110, 1}, {31, 1, 3, 90, 0}};
+    static const wermazul_fill too_dear[3] = {{31, 0, 2, 80, 0}, {7, 0, 2, 5023, 0}, {7, 1, 9, 1, 0}};
+    wermazul_ledger_record ledger = wermazul_ledger(10000).ledger;
+    wermazul_totals left = {10045, 3};
+    wermazul_day_told after = wermazul_apply_fills(WERMAZUL_LEDGER_ROWS(ledger), totals_of(&ledger), WERMAZUL_FILLS(fills, 4));
+    hold("a day", after.told, 0, 0, 0, 0);
+    expect("its count", after.taken == 4 && same_totals(after.totals, totals_of(&l)));
+    ledger.cash = after.totals.cash;
+    ledger.commission = after.totals.commission;
+    expect("as by single fills", memcmp(&ledger, &l, sizeof l) == 0);
+    after = wermazul_apply_fills(WERMAZUL_LEDGER_ROWS(ledger), totals_of(&ledger), WERMAZUL_FILLS(too_dear, 3));
+    hold("a day that ends early", after.told, 8, 2, 10046, 10045);
+    expect("what it took", after.taken == 1 && same_totals(after.totals, left));
+    expect("the first", ledger.quantities[31] == 0 && ledger.averages[31] == 0 && ledger.realized[31] == 47);
+    expect("not the others", ledger.quantities[7] == 0 && ledger.averages[7] == 0 && ledger.realized[7] == 0);
+}
+
 /* Long 3 of symbol 2 and short 2 of symbol 30, with a commission of 4 and of -1. */
 static wermazul_ledger_record pair(void)
 {
@@ -249,6 +271,15 @@ static void refused_fill(
     kept(what, &l, &before, after);
 }
 
+/* A list of so many fills, the first of which is refused. */
+static void refused_list(const char *what, wermazul_ledger_record l, const wermazul_fill *fills, size_t count, uint64_t number)
+{
+    wermazul_ledger_record before = l;
+    wermazul_day_told after = wermazul_apply_fills(WERMAZUL_LEDGER_ROWS(l), totals_of(&l), WERMAZUL_FILLS(fills, count));
+    hold(what, after.told, number, 0, 0, 0);
+    expect(what, after.taken == 0 && memcmp(&l, &before, sizeof l) == 0 && same_totals(after.totals, totals_of(&before)));
+}
+
 static void refused_deposit(const char *what, wermazul_ledger_record l, int64_t amount, uint64_t number)
 {
     wermazul_ledger_record before = l;
@@ -261,6 +292,7 @@ static const int64_t most_lots = 1000000000, most_paid_in = 1000000000000000000,
 
 static void refused(wermazul_ledger_record l)
 {
+    static const wermazul_fill no_side[2] = {{2, 2, 1, 99, 0}, {2, 1, 1, 99, 0}}, cut[1] = {{4294967298, 1, 1, 99, 0}};
     wermazul_ledger_record owing = l, before;
     owing.cash = -5;
     before = owing;
@@ -272,6 +304,8 @@ static void refused(wermazul_ledger_record l)
     refused_fill("no price", l, 2, 1, 1, 0, 2);
     refused_fill("no fill's side", l, 2, 2, 1, 99, 2);
     refused_fill("too short", l, 30, 1, (uint32_t)most_lots, 1, 9);
+    refused_list("no side in a list", l, no_side, 2, 2);
+    refused_list("a symbol of more than 32 bits", l, cut, 1, 2);
     refused_deposit("too large a deposit", l, most_paid_in + 1, 2);
     refused_deposit("too large a withdrawal", l, INT64_MIN, 2);
     l.cash = most_money;
@@ -284,11 +318,14 @@ static void refused(wermazul_ledger_record l)
 /* Every call answers 1 of such a record, before anything else. */
 static void no_ledger(const char *what, wermazul_ledger_record l)
 {
+    static const wermazul_fill fills[2] = {{2, 1, 1, 1, 0}, {32, 2, -1, 0, INT64_MIN}};
     uint32_t prices[32] = {0};
     wermazul_totals totals = totals_of(&l);
     expect(what, !wermazul_is_ledger(WERMAZUL_LEDGER_ROWS(l), totals));
     for (uint64_t side = 0; side < 3; side++) refused_fill(what, l, 2, side, 1, 1, 1);
     refused_fill(what, l, 32, 1, 1, 1, 1);
+    for (size_t count = 0; count < 3; count++) refused_list(what, l, fills, count, 1);
+    refused_list(what, l, fills + 1, 1, 1);
     refused_deposit(what, l, 1, 1);
     refused_deposit(what, l, INT64_MIN, 1);
     hold(what, wermazul_unrealized(WERMAZUL_LEDGER_ROWS(l), totals, 2, 1), 1, 0, 0, 0);
@@ -395,6 +432,7 @@ int main(void)
     books(k);
     emptied(k);
     ledgers(traded());
+    days(traded());
     wermazul_ledger_record two = pair();
     pairs(two);
     refused(two);

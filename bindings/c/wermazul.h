@@ -11,7 +11,7 @@
    What the caller must keep, since no call can test it:
    - No pointer may be null: no row's, and no slice's, not even with a length of 0.
    - A row of a book has 128 places, a row of a ledger 32. A slice is a pointer and a length, counted in elements and not in bytes: numbers of
-     32 bits for listings and prices, bytes for lines. All places of the length are there.
+     32 bits for listings and prices, numbers of 64 bits for fills, bytes for lines. All places of the length are there.
    - A pointer is aligned as C aligns what it points to: 4 bytes for numbers of 32 bits, 8 bytes for numbers of 64 bits. A record that is declared
      is aligned right.
    - What a call writes to, a row or a buffer, overlaps nothing else that it is lent, and no other thread uses it meanwhile.
@@ -90,20 +90,32 @@ typedef struct {
 typedef struct { wermazul_ledger_record ledger; wermazul_told told; } wermazul_ledger_told;
 
 /* What stands beside the rows. The totals that a call gives back belong to the rows from then on; a refusal gives back those that were handed
-   in, and leaves the rows alone. */
+   in, and leaves the rows alone, but that a list of fills keeps those before the refused one, of which `taken` is the count. */
 typedef struct { int64_t cash, commission; } wermazul_totals;
 typedef struct { wermazul_totals totals; wermazul_told told; } wermazul_totals_told;
+typedef struct { wermazul_totals totals; uint64_t taken; wermazul_told told; } wermazul_day_told;
 
 /* The rows of a ledger, as the calls below take them. */
 #define WERMAZUL_LEDGER_ROWS(ledger) (ledger).quantities, (ledger).averages, (ledger).realized
 
-/* Prices are 32 numbers, 0 for none. A worth: 0 unrealized_pnl_total, 1 net_liquidation_value, 2 net_market_exposure, 3 delta_neutral_check. */
+/* A fill of a list: five numbers of 64 bits in this order. Each goes over whole, so that one outside its limits is refused however large it is,
+   where an argument of 32 bits is cut by the caller. WERMAZUL_FILLS lends an array of so many fills as its numbers. There may be none, and the
+   pointer is not null then either; that of an empty std::vector may be. */
+typedef struct { int64_t symbol, side, quantity, price, commission; } wermazul_fill;
+#define WERMAZUL_FILLS(fills, count) &(fills)->symbol, (count) * (sizeof(wermazul_fill) / sizeof(int64_t))
+
+/* A list's fills are taken in order until one is refused: `told` is 0, or the refusal of the first that was not taken. 1 comes at once, and 2
+   where the length is no multiple of five; numbers that make no fill are 2 in their turn.
+   Prices are 32 numbers, 0 for none. A worth: 0 unrealized_pnl_total, 1 net_liquidation_value, 2 net_market_exposure, 3 delta_neutral_check. */
 wermazul_ledger_told wermazul_ledger(int64_t cash);
 bool wermazul_is_ledger(
     const wermazul_amounts quantities, const wermazul_averages averages, const wermazul_amounts realized, wermazul_totals totals);
 wermazul_totals_told wermazul_apply_fill(
     wermazul_amounts quantities, wermazul_averages averages, wermazul_amounts realized, wermazul_totals totals,
     uint32_t symbol, uint64_t side, uint32_t quantity, uint32_t price, int64_t commission);
+wermazul_day_told wermazul_apply_fills(
+    wermazul_amounts quantities, wermazul_averages averages, wermazul_amounts realized, wermazul_totals totals,
+    const int64_t *numbers, size_t length);
 wermazul_totals_told wermazul_deposit(
     const wermazul_amounts quantities, const wermazul_averages averages, const wermazul_amounts realized, wermazul_totals totals,
     int64_t amount);
@@ -162,9 +174,9 @@ wermazul_layout_record wermazul_layout(void);
 }
 #endif
 
-/* The version of this header, as wermazul_layout() tells the archive's: 0.3.0. */
+/* The version of this header, as wermazul_layout() tells the archive's: 0.4.0. */
 #ifndef WERMAZUL_VERSION
-#define WERMAZUL_VERSION 3000
+#define WERMAZUL_VERSION 4000
 #endif
 
 /* Whether the archive that is linked is of this header's version, and the records that it tells of are as large as those declared here. */
