@@ -1,4 +1,4 @@
-// A ledger's day: fills, one that is refused and changes nothing, a deposit, and what the positions are worth at prices.
+// A ledger's day: its fills in one call, one of which is refused, the rest after a deposit, and what the positions are worth at prices.
 use std::error::Error;
 use std::fmt::Write;
 use wermazul::position::{Fill, PositionLedger};
@@ -9,8 +9,8 @@ const SILVER: Symbol = 1;
 
 /// What is printed.
 const SAID: &str = "\
+2 taken, then refusal 8: the fill needs 6030, cash is 4247
 cash 4247, commission paid 3
-refusal 8: the fill needs 6030, cash is 4247
 cash 217, commission paid 3
 symbol 0: Long 6 at 2005
 symbol 1: Short 10 at 25
@@ -18,24 +18,27 @@ unrealized 100, worth 12097, exposed 11880
 refusal 13: the open position of symbol 1 has no price
 ";
 
-/// The morning's fills, one that is refused, and a deposit.
+/// The day's fills, one of which is refused, and the rest after a deposit.
 fn trade(ledger: &mut PositionLedger, said: &mut String) -> Result<(), Box<dyn Error>> {
-    ledger.apply_fill(Fill::with_commission(GOLD, Side::Bid, 3, 2000, 2))?;
-    ledger.apply_fill(Fill::with_commission(SILVER, Side::Ask, 10, 25, 1))?;
-    writeln!(said, "cash {}, commission paid {}", ledger.cash(), ledger.total_commission_paid())?;
+    let fills = [
+        Fill::with_commission(GOLD, Side::Bid, 3, 2000, 2),
+        Fill::with_commission(SILVER, Side::Ask, 10, 25, 1),
+        Fill::new(GOLD, Side::Bid, 3, 2010),
+    ];
 
-    // There is too little cash for this one: it is refused, and the ledger is as it was.
-    let more_gold = Fill::new(GOLD, Side::Bid, 3, 2010);
-    let before = ledger.clone();
-    match ledger.apply_fill(more_gold) {
-        Ok(()) => return Err("a fill that cannot be paid for was taken".into()),
-        Err(refusal) => writeln!(said, "{refusal}")?,
-    }
-    assert_eq!(*ledger, before);
+    // There is too little cash for the third: it is refused and changes nothing, and those before it are booked.
+    let rest = match ledger.apply_fills(&fills) {
+        Ok(_) => return Err("a fill that cannot be paid for was taken".into()),
+        Err(refused) => {
+            writeln!(said, "{refused}")?;
+            &fills[refused.taken..]
+        }
+    };
+    writeln!(said, "cash {}, commission paid {}", ledger.cash(), ledger.total_commission_paid())?;
 
     // With a deposit it is taken, and moves the average.
     ledger.deposit(2000)?;
-    ledger.apply_fill(more_gold)?;
+    ledger.apply_fills(rest)?;
     writeln!(said, "cash {}, commission paid {}", ledger.cash(), ledger.total_commission_paid())?;
     Ok(())
 }

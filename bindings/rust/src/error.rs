@@ -3,7 +3,7 @@ use crate::told::{Told, Whole};
 use std::fmt;
 
 /// Why a call refuses: the numbers 1 to 17, in their order, each with what it carries. A refused call changes nothing, save that a line
-/// refused with 15 or 17 leaves a receiver waiting.
+/// refused with 15 or 17 leaves a receiver waiting, and that a list of fills is booked up to the refused one.
 #[derive(Clone, Copy, Debug, PartialEq, Eq)]
 pub enum Error {
     /// 1: the record is no book, ledger or receiver.

@@ -193,7 +193,7 @@ extern "C" {
         realized: *mut Amounts,
         totals: Totals,
         numbers: *const i64,
-        length: usize,
+        numbers_len: usize,
     ) -> DayTold;
     pub(crate) fn wermazul_deposit(
         quantities: *const Amounts,

@@ -2,14 +2,14 @@
 //!
 //! The work is done by an archive of functions that are written and proved in Rattle; this crate declares them and gives them the types
 //! and names of the Rust modules that they were ported from. A book, a ledger or a receiver is asked and changed where it stands. A refused
-//! call leaves the record as it was, but for a receiver that waits from a gap on. Prices, quantities and money are whole numbers, quotients
-//! are exact, and every refusal has a number ([`Error`]).
+//! call leaves the record as it was, but for a receiver that waits from a gap on, and a list of fills that is booked up to the refused one.
+//! Prices, quantities and money are whole numbers, quotients are exact, and every refusal has a number ([`Error`]).
 //!
 //! The modules [`orderbook`], [`position`], [`types`] and [`error`] hold what the original has in modules of these names; [`feed`] and
 //! [`receiver`] are added. Everything can be named at the root too.
 //!
 //! - [`OrderBook`]: deltas, questions by name or as a [`Question`], and levels listed into a buffer.
-//! - [`PositionLedger`]: fills, cash, what it holds, and what the positions are worth at prices.
+//! - [`PositionLedger`]: fills, one or a list of them, cash, what it holds, and what the positions are worth at prices.
 //! - [`read_line`], [`write_delta`], [`write_snapshot`]: lines of the feed. [`Receiver`]: takes lines and answers while it is live.
 //!
 //! ```

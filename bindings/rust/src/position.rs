@@ -23,12 +23,6 @@ pub struct Fill {
 }
 
 impl Fill {
-    /// The numbers that it crosses as in a list of fills.
-    fn numbers(&self) -> [i64; 5] {
-        let Fill { symbol, side, quantity, price, commission } = *self;
-        [symbol.into(), side as i64, quantity.into(), price.into(), commission]
-    }
-
     /// A trade without commission.
     pub fn new(symbol: Symbol, side: Side, quantity: Quantity, price: Price) -> Fill {
         Fill::with_commission(symbol, side, quantity, price, 0)
@@ -37,6 +31,12 @@ impl Fill {
     /// A trade with its commission.
     pub fn with_commission(symbol: Symbol, side: Side, quantity: Quantity, price: Price, commission: i64) -> Fill {
         Fill { symbol, side, quantity, price, commission }
+    }
+
+    /// The numbers that it goes over as in a list of fills.
+    fn numbers(&self) -> [i64; 5] {
+        let Fill { symbol, side, quantity, price, commission } = *self;
+        [symbol.into(), side as i64, quantity.into(), price.into(), commission]
     }
 }
 
@@ -143,14 +143,14 @@ impl PositionLedger {
         self.become_told(after)
     }
 
-    /// Books fills in order, until one is refused: `Ok` with how many there were, all of them taken, or how many were taken before the refused one, with
-    /// its refusal. The ledger is then as if those had been booked by [`apply_fill`](Self::apply_fill), one by one. A record that is no
-    /// ledger is refused with 1, with no fills too.
+    /// Books fills in order, until one is refused: how many there were, all of them taken, or how many were taken before the refused one,
+    /// with its refusal. The ledger is then as if [`apply_fill`](Self::apply_fill) had booked those one by one. A record that is no ledger
+    /// is refused with 1, with no fills too.
     pub fn apply_fills(&mut self, fills: &[Fill]) -> Result<usize, FillsError> {
         let numbers: Vec<i64> = fills.iter().flat_map(Fill::numbers).collect();
         let totals = self.totals();
         let PositionLedger { quantities, averages, realized, .. } = self;
-        // SAFETY: the rows are three fields of one record, of 32 places each, lent to this call alone, and the numbers are one slice, lent for the call.
+        // SAFETY: the rows are three fields of one record, of 32 places each, and the numbers are one slice, all lent to this call alone.
         let after = unsafe { ffi::wermazul_apply_fills(quantities, averages, realized, totals, numbers.as_ptr(), numbers.len()) };
         self.become_of(after.totals);
         let taken = after.taken as usize;

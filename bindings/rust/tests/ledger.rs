@@ -1,5 +1,5 @@
 //! The ledger.
-use wermazul::{Error, Fill, Position, PositionLedger, Side, MAX_PRICE, SYMBOLS};
+use wermazul::{Error, Fill, FillsError, Position, PositionLedger, Side, MAX_PRICE, SYMBOLS};
 
 /// The limit of cash, commission and realized profit, on both sides of 0.
 const MOST_MONEY: i64 = 4_000_000_000_000_000_000;
@@ -224,6 +224,7 @@ fn refused_everywhere(mut ledger: PositionLedger) {
     let record = ledger.clone();
     assert!(!ledger.is_ledger());
     assert_eq!(ledger.apply_fill(fill(2, Side::Ask, 1, 1, 0)), Err(Error::NotARecord));
+    assert_eq!(ledger.apply_fills(&[fill(2, Side::Ask, 1, 1, 0)]), Err(FillsError { taken: 0, error: Error::NotARecord }));
     assert_eq!(ledger.deposit(1), Err(Error::NotARecord));
     assert_eq!(ledger.checked_unrealized_pnl(2, 1), Err(Error::NotARecord));
     assert_eq!(ledger.unrealized_pnl_total(&[1; 32]), Err(Error::NotARecord));

@@ -42,6 +42,7 @@ fn ledgers() {
     assert_eq!(layout!(LedgerTold, ledger, told), [736, 0, 656]);
     assert_eq!(layout!(Totals, cash, commission), [16, 0, 8]);
     assert_eq!(layout!(TotalsTold, totals, told), [96, 0, 16]);
+    assert_eq!(layout!(DayTold, totals, taken, told), [104, 0, 16, 24]);
     assert_eq!((size_of::<Amounts>(), size_of::<Averages>()), (256, 128));
 }
 
