@@ -90,7 +90,7 @@ typedef struct {
 typedef struct { wermazul_ledger_record ledger; wermazul_told told; } wermazul_ledger_told;
 
 /* What stands beside the rows. The totals that a call gives back belong to the rows from then on; a refusal gives back those that were handed
-   in, and leaves the rows alone, but that a list of fills keeps those before the refused one, of which `taken` is the count. */
+   in, and leaves the rows alone; but a list of fills is booked up to the refused one, and `taken` says how many that are. */
 typedef struct { int64_t cash, commission; } wermazul_totals;
 typedef struct { wermazul_totals totals; wermazul_told told; } wermazul_totals_told;
 typedef struct { wermazul_totals totals; uint64_t taken; wermazul_told told; } wermazul_day_told;
