@@ -55,11 +55,8 @@ impl fmt::Display for FillsError {
     }
 }
 
-impl std::error::Error for FillsError {
-    fn source(&self) -> Option<&(dyn std::error::Error + 'static)> {
-        Some(&self.error)
-    }
-}
+// Its words have the refusal's in them, so it names no source, which would say them again.
+impl std::error::Error for FillsError {}
 
 /// Which way a position stands.
 #[derive(Clone, Copy, Debug, PartialEq, Eq)]

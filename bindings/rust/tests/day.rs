@@ -287,10 +287,10 @@ fn words() {
     assert_eq!(short.to_string(), "1 taken, then refusal 8: the fill needs 101, cash is 98");
     let no_record = FillsError { taken: 0, error: Error::NotARecord };
     assert_eq!(no_record.to_string(), "0 taken, then refusal 1: the record is no book, ledger or receiver");
-    assert_eq!(short.source().and_then(|it| it.downcast_ref()), Some(&short.error));
+    assert!(short.source().is_none());
 }
 
-/// `?` hands it on as any error, and its source is the refusal.
+/// `?` hands it on as any error, and the refusal is read off it.
 #[test]
 fn handed_on() {
     let book = |ledger: &mut PositionLedger| -> Result<(), Box<dyn std::error::Error>> {
@@ -301,5 +301,5 @@ fn handed_on() {
     let short = book(&mut opened(400)).unwrap_err();
     let expected = FillsError { taken: 1, error: Error::InsufficientFunds { need: 202, have: 98 } };
     assert_eq!(short.downcast_ref(), Some(&expected));
-    assert_eq!(short.source().and_then(|it| it.downcast_ref()), Some(&expected.error));
+    assert_eq!(short.downcast_ref::<FillsError>().map(|it| it.error.number()), Some(8));
 }
