@@ -4,6 +4,7 @@ use fields::amount;
 use fields::number;
 use fields::side;
 use fields::small;
+use fields::start;
 use holding::Fill;
 use position::Booked;
 use position::PositionLedger;
@@ -51,6 +52,26 @@ fn filled(ledger: PositionLedger, line: &[u8]) -> PositionLedger {
         position(next, small(line, 1));
         output::amount(cash);
     }
+    next
+}
+
+// The fill whose fields begin behind so many others.
+fn fill_after(line: &[u8], index: usize) -> Fill {
+    fill(&line[start(line, index)..])
+}
+
+// Four fills in one call, over a lent list: how many were taken, and the cash.
+fn booked(ledger: PositionLedger, line: &[u8]) -> PositionLedger {
+    let day = day::apply_four(
+        ledger,
+        [fill(line), fill_after(line, 6), fill_after(line, 12), fill_after(line, 18)],
+    );
+    let outcome = day.outcome;
+    let next = day.ledger;
+    let cash = next.cash;
+    output::told(Told::of_outcome(outcome));
+    output::value(day.taken);
+    output::amount(cash);
     next
 }
 
@@ -104,6 +125,7 @@ pub fn step(ledger: PositionLedger, prices: [u32; 32], kind: u64, line: &[u8]) -
         11 => worth(ledger, &prices, line),
         19 => return with_position(ledger, line),
         20 => shown(ledger, small(line, 1)),
+        28 => return booked(ledger, line),
         _ => output::put(b"?"),
     }
     ledger
