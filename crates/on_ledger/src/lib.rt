@@ -64,7 +64,12 @@ fn fill_after(line: &[u8], index: usize) -> Fill {
 fn booked(ledger: PositionLedger, line: &[u8]) -> PositionLedger {
     let day = day::apply_four(
         ledger,
-        [fill(line), fill_after(line, 6), fill_after(line, 12), fill_after(line, 18)],
+        [
+            fill(line),
+            fill_after(line, 6),
+            fill_after(line, 12),
+            fill_after(line, 18),
+        ],
     );
     let outcome = day.outcome;
     let next = day.ledger;
