@@ -7,15 +7,15 @@ use native.Mathlib.Omega.{arith}
 use lib.IntN.{ℤ}
 use lib.ListN.{length, take, getD}
 use Rattle.types.specs.Replies.{Reply, done, refused}
-use Rattle.types.specs.InOrder.{Run, ended, andThen, ifDone, counting, inOrder, afterAll}
+use Rattle.types.specs.InOrder.{ended, oneMore, ifDone, andThen, inOrder, afterAll}
 use Rattle.types.proofs.Once.{never}
 use Rattle.types.proofs.InOrders.{run-stands, run-each, run-all, run-first, run-keeps, run-append}
 use Rattle.holding.specs.declared.Fill.{Fill}
 use Rattle.position.specs.declared.PositionLedger.{PositionLedger}
-use Rattle.position.specs.Ledger.{isLedger, booked, bookedAll}
+use Rattle.position.specs.Ledger.{Change, isLedger, kept, booked, bookedAll}
 use Rattle.position.proofs.Kept.{fill-keeps}
 use Rattle.day.specs.Day.{ledgerAfter, replyTo, bookedInOrder, dayBooked}
-use Rattle.day.specs.Meaning.{AsSingly, EachTaken, AllTaken, Refused, FirstRefused, DayKeeps, AtOnce, TestedFirst, InTwoCalls}
+use Rattle.day.specs.Meaning.{FillByFill, AsSingly, EachTaken, AllTaken, Refused, FirstRefused, DayKeeps, AtOnce, TestedFirst, InTwoCalls}
 
 -- booking singly is offering each in order
 singly : (l : PositionLedger) (fs : List Fill) → afterAll ledgerAfter l fs ≡ bookedAll l fs
@@ -32,6 +32,25 @@ module _ (l : PositionLedger) (fs : List Fill) where
   of-none : isLedger l ≡ false → dayBooked l fs ≡ ended l (refused 1 [])
   unfolding dayBooked
   of-none h = rw h
+
+-- a fill to a record that is no ledger
+none-booked : (l : PositionLedger) (f : Fill) → isLedger l ≡ false → refused 1 [] ≡ replyTo l f
+unfolding booked
+none-booked l f h = let e : booked l f ≡ kept l 1 [] = rw h in ap (λ (c : Change). c .reply) (sym e)
+
+pub fill-by-fill : FillByFill
+unfolding inOrder
+fill-by-fill l f fs = by (isLedger l) refl
+  where
+    -- the day of a ledger, by the fill's reply
+    on : (a : Reply (Unit {0})) → replyTo l f ≡ a →
+        ifDone a (oneMore (bookedInOrder (ledgerAfter l f) fs)) (ended l a) ≡ ifDone a (oneMore (dayBooked (ledgerAfter l f) fs)) (ended l a)
+    on (done u) e = rw (of-ledger (ledgerAfter l f) fs (fill-keeps l f .ledger e))
+    on (refused n vs) e = refl
+
+    by : (t : Bool) → isLedger l ≡ t → dayBooked l (f ∷ fs) ≡ ifDone (replyTo l f) (oneMore (dayBooked (ledgerAfter l f) fs)) (ended l (replyTo l f))
+    by true h = of-ledger l (f ∷ fs) h ∙ on (replyTo l f) refl
+    by false h = of-none l (f ∷ fs) h ∙ ap (λ (a : Reply (Unit {0})). ifDone a (oneMore (dayBooked (ledgerAfter l f) fs)) (ended l a)) (none-booked l f h)
 
 pub as-singly : AsSingly
 unfolding dayBooked bookedAll

@@ -2,15 +2,21 @@
 use Prim.Native.Nat.{ℕ, _<_}
 use mathlib.Core.Path.{_≡_}
 use mathlib.Core.Bool.{true, false}
-use mathlib.Core.List.{List, [], _++_}
+use mathlib.Core.List.{List, [], _∷_, _++_}
 use lib.IntN.{ℤ}
 use lib.ListN.{length, take, getD}
 use Rattle.types.specs.Replies.{done, refused}
-use Rattle.types.specs.InOrder.{ended, andThen}
+use Rattle.types.specs.InOrder.{ended, oneMore, ifDone, andThen}
 use Rattle.holding.specs.declared.Fill.{Fill}
 use Rattle.position.specs.declared.PositionLedger.{PositionLedger}
 use Rattle.position.specs.Ledger.{isLedger, booked, bookedAll}
 use Rattle.day.specs.Day.{dayBooked}
+
+-- Fill by fill: one that is answered 0 is counted, and the others follow from the ledger that it leaves; any other answer ends the day there.
+abbrev pub FillByFill : Type 0
+FillByFill =
+    (l : PositionLedger) (f : Fill) (fs : List Fill) →
+    dayBooked l (f ∷ fs) ≡ ifDone (booked l f .reply) (oneMore (dayBooked (booked l f .ledger) fs)) (ended l (booked l f .reply))
 
 -- The ledger is that of booking the first fills singly, as many as were taken.
 abbrev pub AsSingly : Type 0
