@@ -1,4 +1,4 @@
-//! Two calls beside the book's: a fill to the ledger, which the original has too, and a line to the receiver, which it has not.
+//! Calls beside the book's: a fill to the ledger, which the original has too, a day's fills and a line to the receiver, which it has not.
 use crate::clock::now;
 use crate::inputs::{self, FILLS};
 use ::original::position as theirs;
@@ -7,6 +7,8 @@ use rust_decimal::Decimal;
 use wermazul::{Fill, OrderBook, PositionLedger, Receiver, MAX_LINE};
 
 const CASH: i64 = 1_000_000_000_000_000;
+/// The fills of a day.
+const DAY: usize = 400;
 
 fn our_fill(it: &inputs::Fill) -> Fill {
     let side = if it.buys { wermazul::Side::Bid } else { wermazul::Side::Ask };
@@ -21,22 +23,28 @@ fn their_fill(it: &inputs::Fill) -> theirs::Fill {
     theirs::Fill::with_commission(symbol, side, quantity, price, NanoTimestamp::new(0), Decimal::from(it.commission))
 }
 
-/// All fills to a new ledger: nanoseconds a fill, of ours and of the original. Every one is taken, and both have the same cash then.
-pub fn fill(fills: &[inputs::Fill]) -> [f64; 2] {
+/// All fills to a new ledger: nanoseconds a fill, of ours by a call each, of the original, and of ours by a call for each day of 400. Every one is
+/// taken, and all have the same cash then.
+pub fn fill(fills: &[inputs::Fill]) -> [f64; 3] {
     let (ours, originals): (Vec<_>, Vec<_>) = fills.iter().map(|it| (our_fill(it), their_fill(it))).unzip();
     let mut ledger = PositionLedger::new(CASH).expect("a ledger");
     let start = now();
-    let taken = ours.into_iter().filter(|it| ledger.apply_fill(*it).is_ok()).count();
+    let taken = ours.iter().filter(|it| ledger.apply_fill(**it).is_ok()).count();
     let our_time = now() - start;
+    let mut by_days = PositionLedger::new(CASH).expect("a ledger");
+    let start = now();
+    let booked: usize = ours.chunks(DAY).filter_map(|day| by_days.apply_fills(day).ok()).sum();
+    let days_time = now() - start;
     let mut original = theirs::PositionLedger::new(Decimal::from(CASH));
     let (mut refused, start) = (0, now());
     for fill in originals {
         refused += usize::from(original.apply_fill(fill).is_err());
     }
     let their_time = now() - start;
-    assert_eq!((taken, refused), (FILLS, 0), "every fill is taken");
+    assert_eq!((taken, booked, refused), (FILLS, FILLS, 0), "every fill is taken");
+    assert_eq!(ledger, by_days, "the ledger");
     assert_eq!(Decimal::from(ledger.cash), original.cash(), "the cash");
-    [our_time / FILLS as f64, their_time / FILLS as f64]
+    [our_time, their_time, days_time].map(|time| time / FILLS as f64)
 }
 
 /// The lines of the deltas, behind that of an empty book.

@@ -37,6 +37,9 @@ fn compare(contestants: &mut [Box<dyn Contestant>]) {
     }
 }
 
+/// A fill of a list, of 400 in a call; of the original, which has no such call, a fill of its loop.
+const DAYS: &str = "apply_fills, a fill of 400";
+
 /// One round: the deltas and then each question, to every contestant.
 fn time_books(contestants: &mut [Box<dyn Contestant>], rounds: &mut Rounds) {
     for (contestant, column) in contestants.iter_mut().zip(COLUMNS) {
@@ -55,8 +58,9 @@ fn time(deltas: &[Delta], questions: &[Question], fills: &[Fill]) -> Rounds {
     let mut rounds = Rounds::default();
     for _ in 0..ROUNDS {
         time_books(&mut contestants, &mut rounds);
-        for (time, column) in beside::fill(fills).into_iter().zip(COLUMNS) {
-            rounds.add("apply_fill", column, time);
+        let [ours, original, by_days] = beside::fill(fills);
+        for (row, time, column) in [("apply_fill", ours, 0), ("apply_fill", original, 1), (DAYS, by_days, 0), (DAYS, original, 1)] {
+            rounds.add(row, COLUMNS[column], time);
         }
         rounds.add("take_line, a delta's", COLUMNS[0], beside::take(&lines));
     }
