@@ -16,7 +16,7 @@ pub struct Accounts {
 }
 
 /// What the rows have of each symbol.
-fn holdings(ledger: &OurLedger) -> [Holding; SYMBOLS] {
+pub fn holdings(ledger: &OurLedger) -> [Holding; SYMBOLS] {
     std::array::from_fn(|symbol| (ledger.quantities[symbol], ledger.averages[symbol], ledger.realized[symbol]))
 }
 
@@ -27,7 +27,8 @@ pub fn described(ledger: &OurLedger) -> String {
 }
 
 /// How a position of the original compares with one of ours: all equal, or in all but the average.
-fn position_verdict(theirs: &Position, ours: &Holding, booking: &rules::Booking, old: u32, price: u32) -> Verdict {
+pub fn position_verdict(theirs: &Position, ours: &Holding, booking: &rules::Booking, price: u32) -> Verdict {
+    let old = booking.held.average;
     let moved = theirs.quantity == Decimal::from(ours.0) && theirs.realized_pnl == Decimal::from(ours.2);
     let average = Decimal::from(ours.1);
     if !moved {
@@ -56,11 +57,11 @@ impl Accounts {
     }
 
     /// The original's ledger made anew from ours, where their averages have parted.
-    fn meet(&mut self) {
+    pub fn meet(&mut self) {
         *self = Accounts::of(self.ours.clone());
     }
 
-    fn totals_same(&self) -> bool {
+    pub fn totals_same(&self) -> bool {
         self.theirs.cash() == Decimal::from(self.ours.cash) && self.theirs.total_commission_paid() == Decimal::from(self.ours.commission)
     }
 
@@ -76,8 +77,8 @@ impl Accounts {
         let alone = money::position_after(old, fill);
         match (within, alone) {
             (Some(within), Some(alone)) if others_kept && self.totals_same() => {
-                let verdict = position_verdict(within, &new, &booking, old.1, fill.price);
-                let same = position_verdict(&alone, &new, &booking, old.1, fill.price) == verdict;
+                let verdict = position_verdict(within, &new, &booking, fill.price);
+                let same = position_verdict(&alone, &new, &booking, fill.price) == verdict;
                 if same {
                     verdict
                 } else {
@@ -96,12 +97,14 @@ impl Accounts {
         refused.then_some(Class::PastLimit)
     }
 
-    fn fill_formed(&self, class: Class, fill: &Fill, said: &Said) -> bool {
-        let theirs = money::apply(&mut self.theirs.clone(), fill);
+    /// Whether both answer a fill that only ours refuses as its class says.
+    pub fn fill_formed(&self, class: Class, fill: &Fill, said: &Said) -> bool {
+        let theirs = money::apply(&mut self.theirs.clone(), fill).number;
+        let goes_on = if rules::is_short(&self.ours, fill) { 8 } else { 0 };
         match class {
-            Class::Limits if fill.price == 0 => said.number == 2 && theirs.number == UNMADE,
-            Class::Limits => said.number == 2 && [0, 8].contains(&theirs.number),
-            _ => said.number == 9 && theirs.number == 0,
+            Class::Limits if fill.price == 0 => *said == Said::refused(2) && theirs == UNMADE,
+            Class::Limits => *said == Said::refused(2) && theirs == goes_on,
+            _ => *said == Said::refused(9) && theirs == 0,
         }
     }
 

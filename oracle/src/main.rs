@@ -11,6 +11,7 @@ mod accounts;
 mod books;
 mod calls;
 mod cases;
+mod days;
 mod forms;
 mod ledgers;
 mod listings;
@@ -25,6 +26,7 @@ mod said;
 mod shapes;
 mod tally;
 
+use days::made;
 use ours::mutants;
 use random::Random;
 use std::process::exit;
@@ -32,16 +34,22 @@ use tally::Tally;
 
 fn compare(seed: u64, rounds: u64, all_classes: bool) -> bool {
     let mut random = Random::new(seed);
+    // Days have numbers of their own, and leave those of the other operations as they are.
+    let mut of_days = Random::new(!seed);
     let mut tally = Tally::default();
     for round in 0..rounds {
         shapes::round(&mut random, &mut tally);
         accounts::round(&mut random, &mut tally);
         accounts::round(&mut random, &mut tally);
         accounts::nearly_neutral(&mut random, &mut tally);
+        if round % 2 == 0 {
+            made::round(&mut of_days, &mut tally);
+        }
         if round % 8 == 0 {
             records::book_round(&mut random, &mut tally);
             records::ledger_round(&mut random, &mut tally);
             accounts::history(&mut random, &mut tally, 60);
+            made::whole_days(&mut of_days, &mut tally);
         }
     }
     tally.report(all_classes)

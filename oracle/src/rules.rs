@@ -87,8 +87,11 @@ pub fn fill_within(fill: &Fill) -> bool {
 
 /// A fill on one position, in plain numbers.
 pub struct Booking {
+    pub held: Position,
     pub old: i128,
     pub new: i128,
+    /// The average after the fill.
+    pub average: i128,
     /// Realized profit after the fill.
     pub realized: i128,
     /// What the new average is of, where the fill increases: the cost of all lots.
@@ -102,13 +105,18 @@ pub fn booking(held: &Position, fill: &Fill) -> Booking {
     let grown = old == 0 || (old > 0) == (fill.side == BID);
     let closed = if grown { 0 } else { old.abs().min(fill.quantity as i128) };
     let gain = (fill.price as i128 - held.average as i128) * old.signum();
-    Booking {
-        old,
-        new,
-        realized: held.realized as i128 + closed * gain - fill.commission as i128,
-        cost: held.average as i128 * old.abs() + fill.price as i128 * fill.quantity as i128,
-        grown,
-    }
+    let cost = held.average as i128 * old.abs() + fill.price as i128 * fill.quantity as i128;
+    let average = if new == 0 {
+        0
+    } else if grown {
+        cost / new.abs()
+    } else if new.signum() == old.signum() {
+        held.average as i128
+    } else {
+        fill.price as i128
+    };
+    let realized = held.realized as i128 + closed * gain - fill.commission as i128;
+    Booking { held: *held, old, new, average, realized, cost, grown }
 }
 
 impl Booking {
@@ -116,8 +124,17 @@ impl Booking {
         self.old.signum() * self.new.signum() < 0 && self.new.abs() <= self.old.abs()
     }
 
+    /// What rounding the average down cuts off the cost of all lots.
+    pub fn cut_off(&self) -> i128 {
+        if self.grown && self.new != 0 {
+            self.cost % self.new.abs()
+        } else {
+            0
+        }
+    }
+
     pub fn is_rounded(&self) -> bool {
-        self.grown && self.new != 0 && self.cost % self.new.abs() != 0
+        self.cut_off() != 0
     }
 
     pub fn is_within(&self) -> bool {
@@ -134,4 +151,48 @@ pub fn is_bearable(ledger: &PositionLedger, fill: &Fill) -> bool {
 
 pub fn is_short(ledger: &PositionLedger, fill: &Fill) -> bool {
     fill.side == BID && (ledger.cash as i128) < fill.charge()
+}
+
+/// The number that a fill is refused with.
+pub fn refusal(ledger: &PositionLedger, fill: &Fill) -> Option<u64> {
+    if !fill_within(fill) {
+        Some(2)
+    } else if is_short(ledger, fill) {
+        Some(8)
+    } else if !is_bearable(ledger, fill) {
+        Some(9)
+    } else {
+        None
+    }
+}
+
+/// Books a fill that is not refused.
+pub fn book(ledger: &mut PositionLedger, fill: &Fill) -> Booking {
+    let symbol = fill.symbol as usize;
+    let booking = booking(&held(ledger, fill.symbol), fill);
+    ledger.cash = (ledger.cash as i128 - fill.charge()) as i64;
+    ledger.commission += fill.commission;
+    ledger.quantities[symbol] = booking.new as i64;
+    ledger.averages[symbol] = booking.average as u32;
+    ledger.realized[symbol] = booking.realized as i64;
+    booking
+}
+
+/// A list of fills: what each that is taken does, and the number that the next is refused with.
+pub struct Plan {
+    pub bookings: Vec<Booking>,
+    pub refusal: Option<u64>,
+}
+
+pub fn plan(ledger: &PositionLedger, fills: &[Fill]) -> Plan {
+    let mut ledger = ledger.clone();
+    let mut bookings = Vec::new();
+    for fill in fills {
+        let refusal = refusal(&ledger, fill);
+        if refusal.is_some() {
+            return Plan { bookings, refusal };
+        }
+        bookings.push(book(&mut ledger, fill));
+    }
+    Plan { bookings, refusal: None }
 }

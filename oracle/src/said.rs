@@ -69,3 +69,23 @@ impl fmt::Display for Said {
         Ok(())
     }
 }
+
+/// How a list of fills ended: how many were taken, and what was said then.
+#[derive(Clone, Copy, Debug, PartialEq, Eq)]
+pub struct Ended {
+    pub taken: usize,
+    pub said: Said,
+}
+
+impl Ended {
+    /// All of them were taken.
+    pub fn all(taken: usize) -> Ended {
+        Ended { taken, said: Said::done() }
+    }
+}
+
+impl fmt::Display for Ended {
+    fn fmt(&self, out: &mut fmt::Formatter<'_>) -> fmt::Result {
+        write!(out, "{} taken, {}", self.taken, self.said)
+    }
+}

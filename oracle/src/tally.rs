@@ -1,4 +1,5 @@
 //! The classes of differences that are allowed, each under a test of its input, and the counts of a run.
+use crate::said::Ended;
 use rust_decimal::Decimal;
 use std::collections::BTreeMap;
 use std::process::exit;
@@ -35,6 +36,9 @@ pub const CLASSES: [(Class, &str, &str); 12] = [
     (Class::NamedSymbol, "named symbol", "two or more open without a price: 13 names the smallest, the Rust any of them"),
 ];
 
+/// Those that a list of fills can part in.
+const LIST_CLASSES: [Class; 4] = [Class::Limits, Class::PastLimit, Class::RoundedAverage, Class::SmallTurnover];
+
 /// How a comparison came out.
 #[derive(Clone, Copy, Debug, PartialEq, Eq)]
 pub enum Verdict {
@@ -69,6 +73,12 @@ pub struct Tally {
     classes: [u64; CLASSES.len()],
     /// Whole histories of a ledger that were equal throughout.
     pub histories: u64,
+    /// Whole days of one, each a list of fills in one call.
+    pub whole_days: u64,
+    /// Fills that were taken in lists.
+    listed: u64,
+    /// Of the classes' counts, those of lists of fills.
+    list_classes: [u64; CLASSES.len()],
     /// The widest gap of spread_pct and spread_bps.
     pub widest: Decimal,
 }
@@ -81,6 +91,16 @@ impl Tally {
             Verdict::Same => (),
             Verdict::Allowed(class) => self.classes[class as usize] += 1,
             Verdict::Different => self.demand(false, || format!("{}: {}", kind, input())),
+        }
+    }
+
+    /// Counts a list of fills; it may part in several classes at once.
+    pub fn count_list(&mut self, ended: &Ended, agree: bool, classes: &[Class], input: impl FnOnce() -> String) {
+        self.count("apply_fills", ended.said.number, Verdict::same(agree), input);
+        self.listed += ended.taken as u64;
+        for class in classes {
+            self.classes[*class as usize] += 1;
+            self.list_classes[*class as usize] += 1;
         }
     }
 
@@ -99,12 +119,15 @@ impl Tally {
             println!("  {:9} {}:{}", numbers.iter().sum::<u64>(), kind, by_number(numbers));
         }
         println!("whole histories of a ledger, equal throughout: {}", self.histories);
+        println!("whole days of a ledger, each one list of fills, equal throughout: {}", self.whole_days);
+        println!("fills taken in lists: {}; differences in lists:{}", self.listed, self.by_list_class());
         println!("widest gap of spread_pct and spread_bps: {}", self.widest);
         println!("differences, by class:");
         for (class, name, what) in &CLASSES {
             println!("  {:9} {}: {}", self.classes[*class as usize], name, what);
         }
-        let seen = self.classes.iter().all(|count| *count > 0);
+        let lists = LIST_CLASSES.iter().all(|class| self.list_classes[*class as usize] > 0);
+        let seen = lists && self.classes.iter().all(|count| *count > 0);
         let operations: u64 = self.kinds.values().flatten().sum();
         let differences: u64 = self.classes.iter().sum();
         println!("{} operations compared, {} differences, all classed", operations, differences);
@@ -112,6 +135,11 @@ impl Tally {
             println!("FAILED: a class was never seen");
         }
         seen || !all_classes
+    }
+
+    fn by_list_class(&self) -> String {
+        let named = LIST_CLASSES.iter().map(|class| (CLASSES[*class as usize].1, self.list_classes[*class as usize]));
+        named.map(|(name, count)| format!(" {} x{}", name, count)).collect::<Vec<_>>().join(",")
     }
 }
 

@@ -9,11 +9,11 @@ use rust_decimal::Decimal;
 use std::collections::BTreeSet;
 use wermazul::PositionLedger as OurLedger;
 
-const fn bought(quantity: u32, price: u32, commission: i64) -> Fill {
+pub const fn bought(quantity: u32, price: u32, commission: i64) -> Fill {
     Fill { symbol: 3, side: BID, quantity, price, commission }
 }
 
-const fn sold(quantity: u32, price: u32, commission: i64) -> Fill {
+pub const fn sold(quantity: u32, price: u32, commission: i64) -> Fill {
     Fill { symbol: 3, side: ASK, quantity, price, commission }
 }
 
@@ -35,26 +35,30 @@ fn plain(value: Decimal) -> String {
 }
 
 /// The original's position; one that it does not have is told as flat.
-fn held(theirs: &PositionLedger) -> String {
-    match theirs.position(&money::symbol_of(3)) {
+pub fn held(theirs: &PositionLedger, symbol: u32) -> String {
+    match theirs.position(&money::symbol_of(symbol)) {
         Some(it) => format!("{} at {} realized {}", plain(it.quantity), plain(it.avg_cost), plain(it.realized_pnl)),
         None => "0 at 0 realized 0".to_string(),
     }
 }
 
+pub fn our_held(ours: &OurLedger, symbol: u32) -> String {
+    let it = rules::held(ours, symbol);
+    format!("{} at {} realized {}", it.quantity, it.average, it.realized)
+}
+
 /// The answers of a history, and where it ends: cash, quantity, average, realized.
 fn case(name: &'static str, cash: i64, fills: &[Fill], expected: (&'static str, &'static str)) -> Case {
     let (ours, said, theirs, their_said) = after(cash, fills);
-    let it = rules::held(&ours, 3);
     Case {
         name,
-        ours: format!("{}: cash {}, {} at {} realized {}", said, ours.cash, it.quantity, it.average, it.realized),
-        theirs: format!("{}: cash {}, {}", their_said, theirs.cash(), held(&theirs)),
+        ours: format!("{}: cash {}, {}", said, ours.cash, our_held(&ours, 3)),
+        theirs: format!("{}: cash {}, {}", their_said, theirs.cash(), held(&theirs, 3)),
         expected,
     }
 }
 
-fn same(text: &'static str) -> (&'static str, &'static str) {
+pub fn same(text: &'static str) -> (&'static str, &'static str) {
     (text, text)
 }
 

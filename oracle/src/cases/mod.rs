@@ -1,6 +1,7 @@
 //! The named cases: for each difference that docs/DIFFERENCES.md lists, its smallest input, with what either side answers, held to a
 //! fixed text.
 mod book;
+mod days;
 mod ledger;
 mod questions;
 
@@ -26,7 +27,8 @@ impl Case {
 
 /// Prints every case; no if one is not as expected.
 pub fn run() -> bool {
-    let groups = [("deltas", book::cases()), ("questions", questions::cases()), ("ledger", ledger::cases())];
+    let groups =
+        [("deltas", book::cases()), ("questions", questions::cases()), ("ledger", ledger::cases()), ("lists of fills", days::cases())];
     let mut failed = 0;
     for (title, cases) in &groups {
         println!("named cases, {}:", title);

@@ -3,7 +3,7 @@ use super::mutants::{self, planted};
 use super::{side_of, told};
 use crate::calls::Call;
 use crate::forms::{Asked, Delta, Fill, SET};
-use crate::said::Said;
+use crate::said::{Ended, Said};
 use wermazul::{BookDelta, DeltaAction, Fill as OurFill, OrderBook, PositionLedger};
 
 pub fn apply(book: &mut OrderBook, offered: &Delta) -> Said {
@@ -41,16 +41,26 @@ pub fn ask(call: &Call, book: &OrderBook, asked: &Asked) -> Said {
     mutants::answered(call.question, book, asked, said)
 }
 
+pub fn fill_of(fill: &Fill) -> OurFill {
+    let Fill { symbol, side, quantity, price, commission } = *fill;
+    OurFill { symbol, side: side_of(side), quantity, price, commission }
+}
+
 pub fn fill(ledger: &mut PositionLedger, fill: &Fill) -> Said {
     let before = ledger.clone();
-    let said = told(ledger.apply_fill(OurFill {
-        symbol: fill.symbol,
-        side: side_of(fill.side),
-        quantity: fill.quantity,
-        price: fill.price,
-        commission: fill.commission,
-    }));
+    let said = told(ledger.apply_fill(fill_of(fill)));
     mutants::filled(&before, ledger, fill, said)
+}
+
+/// A list of fills in one call.
+pub fn fills(ledger: &mut PositionLedger, fills: &[Fill]) -> Ended {
+    let before = ledger.clone();
+    let offered: Vec<OurFill> = mutants::offered(fills).iter().map(fill_of).collect();
+    let ended = match ledger.apply_fills(&offered) {
+        Ok(taken) => Ended::all(taken),
+        Err(refused) => Ended { taken: refused.taken, said: told::<()>(Err(refused.error)) },
+    };
+    mutants::ended(&before, ledger, fills, ended)
 }
 
 pub fn deposit(ledger: &mut PositionLedger, amount: i64) -> Said {

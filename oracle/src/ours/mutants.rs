@@ -1,13 +1,14 @@
 //! Slips planted in our answers on request, to see that the comparison catches them. Without a request nothing here changes anything.
 use crate::forms::{Asked, Delta, Fill, ASK, BID, REMOVE};
+use crate::ours::changes::fill_of;
 use crate::rules::held;
-use crate::said::Said;
+use crate::said::{Ended, Said};
 use rust_decimal::Decimal;
 use std::sync::atomic::{AtomicUsize, Ordering};
 use wermazul::{Levels, OrderBook, PositionLedger};
 
 /// Their names, as the switch takes them.
-pub const NAMES: [&str; 36] = [
+pub const NAMES: [&str; 46] = [
     "zero-set-removes",
     "side-swapped",
     "sequence-kept-on-remove",
@@ -44,6 +45,16 @@ pub const NAMES: [&str; 36] = [
     "neutral-rounded",
     "unpriced-largest",
     "exposure-needs-all",
+    "list-skips-one",
+    "list-reversed",
+    "list-stops-early",
+    "list-lots-for-price",
+    "list-counts-refused",
+    "list-goes-on",
+    "list-undone-by-refusal",
+    "list-keeps-totals",
+    "list-tells-opening-cash",
+    "no-list-untested",
 ];
 
 static PLANTED: AtomicUsize = AtomicUsize::new(usize::MAX);
@@ -201,6 +212,59 @@ pub fn filled(before: &PositionLedger, ledger: &mut PositionLedger, fill: &Fill,
         return Said::of(8, &[Decimal::from(fill.charge()), before.cash.into()]);
     }
     said
+}
+
+/// The place of the fill that a slip skips.
+fn skipped(fills: &[Fill]) -> usize {
+    fills.len() / 2
+}
+
+/// A list of fills as a slip would lend it.
+pub fn offered(fills: &[Fill]) -> Vec<Fill> {
+    let mut changed = fills.to_vec();
+    if planted("list-skips-one") && !fills.is_empty() {
+        changed.remove(skipped(fills));
+    }
+    if planted("list-reversed") {
+        changed.reverse();
+    }
+    if planted("list-stops-early") {
+        changed.pop();
+    }
+    if planted("list-lots-for-price") {
+        changed.iter_mut().for_each(|fill| std::mem::swap(&mut fill.quantity, &mut fill.price));
+    }
+    changed
+}
+
+/// What a slip makes of a list's end. The skipped fill is counted, so that only the ledger tells of it.
+pub fn ended(before: &PositionLedger, ledger: &mut PositionLedger, fills: &[Fill], ended: Ended) -> Ended {
+    let Ended { taken, said } = ended;
+    if planted("list-skips-one") && said.number != 1 && taken >= skipped(fills) && !fills.is_empty() {
+        return Ended { taken: taken + 1, said };
+    }
+    if planted("no-list-untested") && fills.is_empty() {
+        return Ended::all(0);
+    }
+    if !any() || said.number < 2 {
+        return ended;
+    }
+    if planted("list-goes-on") {
+        for fill in &fills[taken + 1..] {
+            let _ = ledger.apply_fill(fill_of(fill));
+        }
+    }
+    if planted("list-undone-by-refusal") {
+        *ledger = before.clone();
+    }
+    if planted("list-keeps-totals") {
+        (ledger.cash, ledger.commission) = (before.cash, before.commission);
+    }
+    match said.number {
+        _ if planted("list-counts-refused") => Ended { taken: taken + 1, said },
+        8 if planted("list-tells-opening-cash") => Ended { taken, said: Said::of(8, &[said.values()[0], before.cash.into()]) },
+        _ => ended,
+    }
 }
 
 fn exposures(ledger: &PositionLedger, prices: &[u32]) -> (i128, i128) {
