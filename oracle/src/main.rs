@@ -2,7 +2,7 @@
 //! difference must be of a class whose test holds of its input; any other ends the run.
 //!
 //! ```text
-//! oracle compare SEED ROUNDS [--mutant NAME] [--short]
+//! oracle compare SEED ROUNDS [--mutant NAME] [--short] [--days]
 //! oracle cases
 //! oracle replay SEED FOLDER
 //! oracle mutants            (the names that --mutant takes)
@@ -26,37 +26,50 @@ mod said;
 mod shapes;
 mod tally;
 
-use days::made;
 use ours::mutants;
 use random::Random;
 use std::process::exit;
 use tally::Tally;
 
-fn compare(seed: u64, rounds: u64, all_classes: bool) -> bool {
+/// What the switches ask for.
+struct Wanted {
+    /// Every class must be seen.
+    all_classes: bool,
+    /// Nothing but days is compared.
+    only_days: bool,
+}
+
+fn books_and_ledgers(random: &mut Random, tally: &mut Tally, eighth: bool) {
+    shapes::round(random, tally);
+    accounts::round(random, tally);
+    accounts::round(random, tally);
+    accounts::nearly_neutral(random, tally);
+    if eighth {
+        records::book_round(random, tally);
+        records::ledger_round(random, tally);
+        accounts::history(random, tally, 60);
+    }
+}
+
+fn compare(seed: u64, rounds: u64, wanted: Wanted) -> bool {
     let mut random = Random::new(seed);
-    // Days have numbers of their own, and leave those of the other operations as they are.
+    // Days draw numbers of their own, so that they are the same alone and beside the others.
     let mut of_days = Random::new(!seed);
     let mut tally = Tally::default();
     for round in 0..rounds {
-        shapes::round(&mut random, &mut tally);
-        accounts::round(&mut random, &mut tally);
-        accounts::round(&mut random, &mut tally);
-        accounts::nearly_neutral(&mut random, &mut tally);
-        if round % 2 == 0 {
-            made::round(&mut of_days, &mut tally);
+        let eighth = round % 8 == 0;
+        if !wanted.only_days {
+            books_and_ledgers(&mut random, &mut tally, eighth);
         }
-        if round % 8 == 0 {
-            records::book_round(&mut random, &mut tally);
-            records::ledger_round(&mut random, &mut tally);
-            accounts::history(&mut random, &mut tally, 60);
-            made::whole_days(&mut of_days, &mut tally);
+        if eighth {
+            days::made::round(&mut of_days, &mut tally);
         }
     }
-    tally.report(all_classes)
+    tally.report(wanted.all_classes)
 }
 
 fn usage() -> ! {
-    eprintln!("oracle compare SEED ROUNDS [--mutant NAME] [--short] | cases | replay SEED FOLDER | mutants");
+    eprintln!("oracle compare SEED ROUNDS [--mutant NAME] [--short] [--days] | cases | replay SEED FOLDER | mutants");
     exit(2)
 }
 
@@ -64,14 +77,12 @@ fn number(text: &str) -> u64 {
     text.parse().unwrap_or_else(|_| usage())
 }
 
-/// The switches after SEED and ROUNDS: whether every class must be seen. A mutant is planted.
-fn switches(rest: &[&str]) -> bool {
+/// The switches after SEED and ROUNDS. A mutant is planted.
+fn switches(rest: &[&str]) -> Wanted {
     match rest {
-        [] => true,
-        ["--short", rest @ ..] => {
-            switches(rest);
-            false
-        }
+        [] => Wanted { all_classes: true, only_days: false },
+        ["--short", rest @ ..] => Wanted { all_classes: false, ..switches(rest) },
+        ["--days", rest @ ..] => Wanted { only_days: true, ..switches(rest) },
         ["--mutant", name, rest @ ..] if mutants::plant(name) => switches(rest),
         _ => usage(),
     }
@@ -83,8 +94,8 @@ fn main() {
     quiet::start();
     let passed = match words.as_slice() {
         ["compare", seed, rounds, rest @ ..] => {
-            let all_classes = switches(rest);
-            compare(number(seed), number(rounds), all_classes)
+            let wanted = switches(rest);
+            compare(number(seed), number(rounds), wanted)
         }
         ["cases", rest @ ..] => {
             switches(rest);

@@ -94,9 +94,9 @@ fn no_ledger(random: &mut Random, tally: &mut Tally, ledger: PositionLedger) {
     tally.count("changes of no ledger", 1, refusal(changed && kept == ledger), || format!("{:?}", ledger));
     let sold = Fill { symbol: 3, side: ASK, quantity: 1, price: 1, commission: 0 };
     let at_once = Ended { taken: 0, said: one };
-    let lists: [&[Fill]; 4] = [&[], &[sold], &[fill, sold], &[sold, fill, sold]];
-    let listed = lists.iter().all(|fills| changes::fills(&mut kept, fills) == at_once);
-    tally.count("apply_fills of no ledger", 1, refusal(listed && kept == ledger), || format!("{:?}", ledger));
+    let days: [&[Fill]; 4] = [&[], &[sold], &[fill, sold], &[sold, fill, sold]];
+    let refused = days.iter().all(|fills| changes::fills(&mut kept, fills) == at_once);
+    tally.count("apply_fills of no ledger", 1, refusal(refused && kept == ledger), || format!("{:?}", ledger));
     let alone = told(ledger.checked_unrealized_pnl(40, 0)) == one;
     let prices = [0; 31];
     let valued = (0..4).all(|worth| changes::worth(&ledger, worth, &prices) == one);

@@ -178,7 +178,7 @@ pub fn book(ledger: &mut PositionLedger, fill: &Fill) -> Booking {
     booking
 }
 
-/// A list of fills: what each that is taken does, and the number that the next is refused with.
+/// A day's fills: what each that is taken does, and the number that the next is refused with.
 pub struct Plan {
     pub bookings: Vec<Booking>,
     pub refusal: Option<u64>,

@@ -70,7 +70,7 @@ impl fmt::Display for Said {
     }
 }
 
-/// How a list of fills ended: how many were taken, and what was said then.
+/// How a day's fills ended: how many were taken, and what was said then.
 #[derive(Clone, Copy, Debug, PartialEq, Eq)]
 pub struct Ended {
     pub taken: usize,

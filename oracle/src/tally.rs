@@ -36,8 +36,8 @@ pub const CLASSES: [(Class, &str, &str); 12] = [
     (Class::NamedSymbol, "named symbol", "two or more open without a price: 13 names the smallest, the Rust any of them"),
 ];
 
-/// Those that a list of fills can part in.
-const LIST_CLASSES: [Class; 4] = [Class::Limits, Class::PastLimit, Class::RoundedAverage, Class::SmallTurnover];
+/// Those that a day can part in.
+const DAY_CLASSES: [Class; 4] = [Class::Limits, Class::PastLimit, Class::RoundedAverage, Class::SmallTurnover];
 
 /// How a comparison came out.
 #[derive(Clone, Copy, Debug, PartialEq, Eq)]
@@ -73,12 +73,12 @@ pub struct Tally {
     classes: [u64; CLASSES.len()],
     /// Whole histories of a ledger that were equal throughout.
     pub histories: u64,
-    /// Whole days of one, each a list of fills in one call.
-    pub whole_days: u64,
-    /// Fills that were taken in lists.
-    listed: u64,
-    /// Of the classes' counts, those of lists of fills.
-    list_classes: [u64; CLASSES.len()],
+    /// Whole days of one, each booked in one call: those taken to the end, and those that ran short of cash.
+    pub whole_days: [u64; 2],
+    /// Fills that were taken in days.
+    booked: u64,
+    /// Of the classes' counts, those of days.
+    day_classes: [u64; CLASSES.len()],
     /// The widest gap of spread_pct and spread_bps.
     pub widest: Decimal,
 }
@@ -94,13 +94,13 @@ impl Tally {
         }
     }
 
-    /// Counts a list of fills; it may part in several classes at once.
-    pub fn count_list(&mut self, ended: &Ended, agree: bool, classes: &[Class], input: impl FnOnce() -> String) {
+    /// Counts a day; it may part in several classes at once.
+    pub fn count_day(&mut self, ended: &Ended, agree: bool, classes: &[Class], input: impl FnOnce() -> String) {
         self.count("apply_fills", ended.said.number, Verdict::same(agree), input);
-        self.listed += ended.taken as u64;
+        self.booked += ended.taken as u64;
         for class in classes {
             self.classes[*class as usize] += 1;
-            self.list_classes[*class as usize] += 1;
+            self.day_classes[*class as usize] += 1;
         }
     }
 
@@ -119,26 +119,27 @@ impl Tally {
             println!("  {:9} {}:{}", numbers.iter().sum::<u64>(), kind, by_number(numbers));
         }
         println!("whole histories of a ledger, equal throughout: {}", self.histories);
-        println!("whole days of a ledger, each one list of fills, equal throughout: {}", self.whole_days);
-        println!("fills taken in lists: {}; differences in lists:{}", self.listed, self.by_list_class());
+        let [ended, short] = self.whole_days;
+        println!("whole days of a ledger, each booked in one call, equal throughout: {}, and {} that ran short of cash", ended, short);
+        println!("fills taken in days: {}; differences in days:{}", self.booked, self.by_day_class());
         println!("widest gap of spread_pct and spread_bps: {}", self.widest);
         println!("differences, by class:");
         for (class, name, what) in &CLASSES {
             println!("  {:9} {}: {}", self.classes[*class as usize], name, what);
         }
-        let lists = LIST_CLASSES.iter().all(|class| self.list_classes[*class as usize] > 0);
-        let seen = lists && self.classes.iter().all(|count| *count > 0);
+        let days = DAY_CLASSES.iter().all(|class| self.day_classes[*class as usize] > 0) && ended > 0 && short > 0;
+        let seen = days && self.classes.iter().all(|count| *count > 0);
         let operations: u64 = self.kinds.values().flatten().sum();
         let differences: u64 = self.classes.iter().sum();
         println!("{} operations compared, {} differences, all classed", operations, differences);
         if all_classes && !seen {
-            println!("FAILED: a class was never seen");
+            println!("FAILED: a class was never seen, or a day with it, or a whole day of either kind");
         }
         seen || !all_classes
     }
 
-    fn by_list_class(&self) -> String {
-        let named = LIST_CLASSES.iter().map(|class| (CLASSES[*class as usize].1, self.list_classes[*class as usize]));
+    fn by_day_class(&self) -> String {
+        let named = DAY_CLASSES.iter().map(|class| (CLASSES[*class as usize].1, self.day_classes[*class as usize]));
         named.map(|(name, count)| format!(" {} x{}", name, count)).collect::<Vec<_>>().join(",")
     }
 }

@@ -1,4 +1,4 @@
-//! Lists of fills in one call, beside a loop of the original's that stops at its first error.
+//! Days, each booked in one call, beside a loop of the original's `apply_fill` that stops at its first error.
 use super::ledger::{bought, held, our_held, same, sold};
 use super::Case;
 use crate::forms::*;
@@ -20,7 +20,7 @@ fn looped(ledger: &mut PositionLedger, fills: &[Fill]) -> Ended {
     Ended::all(fills.len())
 }
 
-/// How the list ended, and what it left: cash, commission paid, symbols 3 and 7.
+/// How the day ended, and what it left: cash, commission paid, symbols 3 and 7.
 fn case(name: &'static str, cash: i64, fills: &[Fill], expected: (&'static str, &'static str)) -> Case {
     let mut ours = OurLedger::new(cash).expect("cash within its limit");
     let mut theirs = PositionLedger::new(Decimal::from(cash));

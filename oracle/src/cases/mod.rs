@@ -27,8 +27,7 @@ impl Case {
 
 /// Prints every case; no if one is not as expected.
 pub fn run() -> bool {
-    let groups =
-        [("deltas", book::cases()), ("questions", questions::cases()), ("ledger", ledger::cases()), ("lists of fills", days::cases())];
+    let groups = [("deltas", book::cases()), ("questions", questions::cases()), ("ledger", ledger::cases()), ("days", days::cases())];
     let mut failed = 0;
     for (title, cases) in &groups {
         println!("named cases, {}:", title);

@@ -18,15 +18,15 @@ fn length(random: &mut Random) -> u64 {
 /// Fills for a ledger, each made for what those before it leave. After one that is refused they are made as if it had not been there.
 fn fills(random: &mut Random, ledger: &PositionLedger, next: impl Fn(&mut Random, &PositionLedger) -> Fill) -> Vec<Fill> {
     let mut ledger = ledger.clone();
-    let mut list = Vec::new();
+    let mut day = Vec::new();
     for _ in 0..length(random) {
         let fill = next(random, &ledger);
         if rules::refusal(&ledger, &fill).is_none() {
             rules::book(&mut ledger, &fill);
         }
-        list.push(fill);
+        day.push(fill);
     }
-    list
+    day
 }
 
 /// Any fill; one that is refused only this many times in a hundred, as long as another is soon found.
@@ -40,8 +40,8 @@ fn any_fill(random: &mut Random, ledger: &PositionLedger, refused: u64) -> Fill 
     accounts::fill(random, ledger)
 }
 
-/// One round: any ledger, and a day's fills of any kind.
-pub fn round(random: &mut Random, tally: &mut Tally) {
+/// Any ledger, and a day's fills of any kind.
+fn any_day(random: &mut Random, tally: &mut Tally) {
     let mut accounts = Accounts::of(accounts::ledger(random));
     let refused = random.one_of(&[0, 5, 20]);
     let day = fills(random, &accounts.ours, |random, ledger| any_fill(random, ledger, refused));
@@ -49,12 +49,18 @@ pub fn round(random: &mut Random, tally: &mut Tally) {
 }
 
 /// Whole days, one after another: the original's ledger is never made anew.
-pub fn whole_days(random: &mut Random, tally: &mut Tally) {
+fn whole_days(random: &mut Random, tally: &mut Tally) {
     let mut accounts = Accounts::new(random.one_of(&[100_000, 1_000_000_000, 20_000]));
     for _ in 0..4 {
         let day = fills(random, &accounts.ours, whole_fill);
-        let classes = accounts.day(tally, &day);
+        let (ended, classes) = accounts.day(tally, &day);
         tally.demand(classes.is_empty(), || format!("{:?} parted in {:?} in a whole day", day, classes));
-        tally.whole_days += 1;
+        tally.whole_days[(ended.said.number == 8) as usize] += 1;
     }
+}
+
+/// One round: days of any kind, each on a ledger of its own, and whole days.
+pub fn round(random: &mut Random, tally: &mut Tally) {
+    (0..4).for_each(|_| any_day(random, tally));
+    whole_days(random, tally);
 }

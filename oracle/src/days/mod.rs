@@ -6,7 +6,7 @@
 //!
 //! - limits, past a limit: ours ends with 2 or 9 at the first such fill. The original would go on, so it is compared before that fill, and
 //!   then asked for it.
-//! - rounded average, small turnover: after the first such fill of a symbol, ours (the list cut there) and the original's position have the
+//! - rounded average, small turnover: after the first such fill of a symbol, ours (the day cut there) and the original's position have the
 //!   class's form. From then on that symbol's average and profit part, and all else stays equal. At the end, its realized profit less the
 //!   cost of its lots is apart by just what each rounding cut off and what each small turnover left at the old average.
 pub mod made;
@@ -68,7 +68,7 @@ impl<'a> Day<'a> {
     fn book(&mut self, theirs: &mut PositionLedger) -> Ended {
         let reach = if self.end_class().is_some() { self.plan.bookings.len() } else { self.fills.len() };
         for (place, fill) in self.fills[..reach].iter().enumerate() {
-            let parts = self.plan.bookings.get(place).map_or(false, |it| it.is_rounded() || it.is_small_turnover());
+            let parts = matches!(self.plan.bookings.get(place), Some(it) if it.is_rounded() || it.is_small_turnover());
             let symbol = symbol_of(fill.symbol);
             let average = theirs.position(&symbol).filter(|_| parts).map(|it| it.avg_cost);
             let said = guarded(|| money::apply(theirs, fill));
@@ -99,7 +99,7 @@ impl<'a> Day<'a> {
         }
     }
 
-    /// What ours has of a fill's symbol if the list is cut after it.
+    /// What ours has of a fill's symbol if the day is cut after it.
     fn after(&self, place: usize) -> Option<Holding> {
         let mut ours = self.start.clone();
         let ended = changes::fills(&mut ours, &self.fills[..=place]);
@@ -113,12 +113,13 @@ impl<'a> Day<'a> {
         };
         let (quantity, average, realized) = (Decimal::from(ours.0), Decimal::from(ours.1), Decimal::from(ours.2));
         let Apart { class, gap } = self.apart[symbol];
-        let same = theirs.avg_cost == average && theirs.realized_pnl == realized;
+        if class.is_none() {
+            return theirs.quantity == quantity && theirs.avg_cost == average && theirs.realized_pnl == realized;
+        }
         let their_settled = settled(theirs.quantity, theirs.avg_cost, theirs.realized_pnl);
-        let apart = settled(quantity, average, realized) - their_settled - gap;
-        // The original's own rounding, at 28 digits, stays far below this over a day.
-        let parted = class.is_some() && apart.abs() < Decimal::new(1, 6);
-        theirs.quantity == quantity && (same && class.is_none() || parted)
+        let rest = settled(quantity, average, realized) - their_settled - gap;
+        // What our rounding cuts off is whole; the original's own, at 28 digits, was never seen to leave more than 2·10^-10 over a day.
+        theirs.quantity == quantity && rest.abs() < Decimal::new(1, 6)
     }
 
     fn end_agrees(&self, accounts: &Accounts, ours: &Ended, theirs: &Ended) -> bool {
@@ -155,15 +156,15 @@ fn singly(ledger: &mut OurLedger, fills: &[Fill]) -> Ended {
 }
 
 impl Accounts {
-    /// A day's fills in one call; gives the classes that it parts in, none where all is equal.
-    pub fn day(&mut self, tally: &mut Tally, fills: &[Fill]) -> Vec<Class> {
+    /// A day's fills in one call; gives how it ended, and the classes that it parts in, none where all is equal.
+    pub fn day(&mut self, tally: &mut Tally, fills: &[Fill]) -> (Ended, Vec<Class>) {
         let start = self.ours.clone();
         let mut day = Day::new(&start, fills);
         let ours = changes::fills(&mut self.ours, fills);
         let theirs = day.book(&mut self.theirs);
         let classes = day.classes();
         let told = || format!("{:?} on {}: ours {} now {}", fills, described(&start), ours, described(&self.ours));
-        tally.count_list(&ours, day.agrees(self, &ours, &theirs), &classes, || {
+        tally.count_day(&ours, day.agrees(self, &ours, &theirs), &classes, || {
             format!("{}, theirs {} now {:?}", told(), theirs, self.theirs)
         });
         let mut single = start.clone();
@@ -174,6 +175,6 @@ impl Accounts {
         if !classes.is_empty() {
             self.meet();
         }
-        classes
+        (ours, classes)
     }
 }

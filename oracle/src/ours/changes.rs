@@ -52,7 +52,7 @@ pub fn fill(ledger: &mut PositionLedger, fill: &Fill) -> Said {
     mutants::filled(&before, ledger, fill, said)
 }
 
-/// A list of fills in one call.
+/// A day's fills in one call.
 pub fn fills(ledger: &mut PositionLedger, fills: &[Fill]) -> Ended {
     let before = ledger.clone();
     let offered: Vec<OurFill> = mutants::offered(fills).iter().map(fill_of).collect();

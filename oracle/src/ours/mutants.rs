@@ -45,16 +45,16 @@ pub const NAMES: [&str; 46] = [
     "neutral-rounded",
     "unpriced-largest",
     "exposure-needs-all",
-    "list-skips-one",
-    "list-reversed",
-    "list-stops-early",
-    "list-lots-for-price",
-    "list-counts-refused",
-    "list-goes-on",
-    "list-undone-by-refusal",
-    "list-keeps-totals",
-    "list-tells-opening-cash",
-    "no-list-untested",
+    "day-skips-one",
+    "day-reversed",
+    "day-stops-early",
+    "day-lots-for-price",
+    "day-counts-refused",
+    "day-goes-on",
+    "day-undone-by-refusal",
+    "day-keeps-totals",
+    "day-tells-opening-cash",
+    "empty-day-untested",
 ];
 
 static PLANTED: AtomicUsize = AtomicUsize::new(usize::MAX);
@@ -219,50 +219,50 @@ fn skipped(fills: &[Fill]) -> usize {
     fills.len() / 2
 }
 
-/// A list of fills as a slip would lend it.
+/// A day's fills as a slip would lend them.
 pub fn offered(fills: &[Fill]) -> Vec<Fill> {
     let mut changed = fills.to_vec();
-    if planted("list-skips-one") && !fills.is_empty() {
+    if planted("day-skips-one") && !fills.is_empty() {
         changed.remove(skipped(fills));
     }
-    if planted("list-reversed") {
+    if planted("day-reversed") {
         changed.reverse();
     }
-    if planted("list-stops-early") {
+    if planted("day-stops-early") {
         changed.pop();
     }
-    if planted("list-lots-for-price") {
+    if planted("day-lots-for-price") {
         changed.iter_mut().for_each(|fill| std::mem::swap(&mut fill.quantity, &mut fill.price));
     }
     changed
 }
 
-/// What a slip makes of a list's end. The skipped fill is counted, so that only the ledger tells of it.
+/// What a slip makes of a day's end. The skipped fill is counted, so that only the ledger tells of it.
 pub fn ended(before: &PositionLedger, ledger: &mut PositionLedger, fills: &[Fill], ended: Ended) -> Ended {
     let Ended { taken, said } = ended;
-    if planted("list-skips-one") && said.number != 1 && taken >= skipped(fills) && !fills.is_empty() {
+    if planted("day-skips-one") && said.number != 1 && taken >= skipped(fills) && !fills.is_empty() {
         return Ended { taken: taken + 1, said };
     }
-    if planted("no-list-untested") && fills.is_empty() {
+    if planted("empty-day-untested") && fills.is_empty() {
         return Ended::all(0);
     }
     if !any() || said.number < 2 {
         return ended;
     }
-    if planted("list-goes-on") {
+    if planted("day-goes-on") {
         for fill in &fills[taken + 1..] {
             let _ = ledger.apply_fill(fill_of(fill));
         }
     }
-    if planted("list-undone-by-refusal") {
+    if planted("day-undone-by-refusal") {
         *ledger = before.clone();
     }
-    if planted("list-keeps-totals") {
+    if planted("day-keeps-totals") {
         (ledger.cash, ledger.commission) = (before.cash, before.commission);
     }
     match said.number {
-        _ if planted("list-counts-refused") => Ended { taken: taken + 1, said },
-        8 if planted("list-tells-opening-cash") => Ended { taken, said: Said::of(8, &[said.values()[0], before.cash.into()]) },
+        _ if planted("day-counts-refused") => Ended { taken: taken + 1, said },
+        8 if planted("day-tells-opening-cash") => Ended { taken, said: Said::of(8, &[said.values()[0], before.cash.into()]) },
         _ => ended,
     }
 }
