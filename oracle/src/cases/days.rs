@@ -75,9 +75,8 @@ fn agreed() -> Vec<Case> {
     ]
 }
 
-/// Where a day parts: an average, a turnover, a fill that only ours refuses.
+/// Where averages part, or a turnover: the count and the refusal stay equal.
 fn parted() -> Vec<Case> {
-    let outside = Fill { symbol: 32, ..sold(1, 1, 0) };
     vec![
         case(
             "the worked day: its averages part, and the profit after them",
@@ -97,6 +96,13 @@ fn parted() -> Vec<Case> {
                 "2 taken, 8 2000 1003: cash 1003 paid 0, -1 at 1 realized 1, 0 at 0 realized 0",
             ),
         ),
+    ]
+}
+
+/// Where only ours refuses a fill: the original's loop goes on, or cannot make the value.
+fn ended() -> Vec<Case> {
+    let outside = Fill { symbol: 32, ..sold(1, 1, 0) };
+    vec![
         case(
             "symbol 32 first",
             9,
@@ -142,5 +148,5 @@ fn no_ledger(name: &'static str, fills: &[Fill]) -> Case {
 
 pub fn cases() -> Vec<Case> {
     let records = vec![no_ledger("no fills to no ledger", &[]), no_ledger("a fill to no ledger", &[sold(1, 1, 0)])];
-    [agreed(), parted(), records].into_iter().flatten().collect()
+    [agreed(), parted(), ended(), records].into_iter().flatten().collect()
 }
