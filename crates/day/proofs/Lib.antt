@@ -1,5 +1,6 @@
 pub mod Numbers
 pub mod Steps
 pub mod Walk
+pub mod Calls
 pub mod Meaning
 pub mod Once

@@ -1,10 +1,9 @@
 -- What a day's booking means (specs/Meaning.antt), from what any run of changes means.
-use Prim.Native.Nat.{ℕ, _<_}
+use Prim.Native.Nat.{_<_}
 use mathlib.Core.Path.{_≡_, refl, sym, ap, _∙_}
 use mathlib.Core.Bool.{Bool, true, false, cond}
 use mathlib.Core.List.{List, [], _∷_, _++_}
 use native.Mathlib.Omega.{arith}
-use lib.IntN.{ℤ}
 use lib.ListN.{length, take, getD}
 use Rattle.types.specs.Replies.{Reply, done, refused}
 use Rattle.types.specs.InOrder.{ended, oneMore, ifDone, andThen, inOrder, afterAll}
@@ -15,7 +14,7 @@ use Rattle.position.specs.declared.PositionLedger.{PositionLedger}
 use Rattle.position.specs.Ledger.{Change, isLedger, kept, booked, bookedAll}
 use Rattle.position.proofs.Kept.{fill-keeps}
 use Rattle.day.specs.Day.{ledgerAfter, replyTo, bookedInOrder, dayBooked}
-use Rattle.day.specs.Meaning.{FillByFill, AsSingly, EachTaken, AllTaken, Refused, FirstRefused, DayKeeps, AtOnce, TestedFirst, InTwoCalls}
+use Rattle.day.specs.Meaning.{FillByFill, AsSingly, EachTaken, AllTaken, FirstRefused, DayKeeps, TestedFirst, InTwoCalls}
 
 -- booking singly is offering each in order
 singly : (l : PositionLedger) (fs : List Fill) → afterAll ledgerAfter l fs ≡ bookedAll l fs

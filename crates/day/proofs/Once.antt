@@ -1,5 +1,4 @@
 -- Any two results that meet a day's promise are equal: the ledger and the count are the definition's, and its reply names one outcome.
-use Prim.Native.Nat.{ℕ}
 use mathlib.Core.Path.{_≡_, ap, sym, _∙_}
 use Rattle.types.specs.InOrder.{Run}
 use Rattle.types.proofs.Once.{one-outcome}

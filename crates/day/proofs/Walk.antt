@@ -1,6 +1,6 @@
 -- The walk over lent fills comes to the day's definition.
-use Prim.Native.Nat.{ℕ, suc, _+_, _%_, _^_, _<_}
-use mathlib.Core.Path.{_≡_, refl, sym, ap, _∙_}
+use Prim.Native.Nat.{ℕ, _+_, _^_, _<_}
+use mathlib.Core.Path.{_≡_, refl, sym, _∙_}
 use mathlib.Core.Bool.{Bool, true, false, cond}
 use mathlib.Core.List.{List, [], _∷_}
 use native.Mathlib.Nat.{add-zero, mod-eq-of-lt}
@@ -10,13 +10,13 @@ use lib.IntN.{ℤ}
 use lib.ListN.{length, getD, drop}
 use lib.Seq.{drop-cons, drop-length}
 use Rattle.types.specs.Replies.{Reply, done, refused, ifRecord}
-use Rattle.types.specs.InOrder.{Run, ended, counting, inOrder}
+use Rattle.types.specs.InOrder.{Run, ended, counting}
 use Rattle.types.proofs.InOrders.{counting-none}
 use Rattle.holding.specs.declared.Fill.{Fill}
 use Rattle.position.specs.declared.PositionLedger.{PositionLedger}
-use Rattle.position.specs.Ledger.{Change, isLedger, booked}
+use Rattle.position.specs.Ledger.{isLedger, booked}
 use Rattle.day.specs.Day.{ledgerAfter, replyTo, bookedInOrder, dayBooked}
-use Rattle.day.specs.Inner.Walk.{begun, counted, nextOf, allOf}
+use Rattle.day.specs.Inner.Walk.{begun, nextOf, allOf}
 use Rattle.day.proofs.Steps.{goes-on, stops, is-over}
 
 pub all-next : (day : Run PositionLedger) (fs : List Fill) (i : ℕ) (d : Fill) → i < length fs → allOf (nextOf day (getD fs i d)) (drop (i + 1) fs) ≡ allOf day (drop i fs)

@@ -12,12 +12,11 @@ use Rattle.types.specs.declared.Side.the-variants.{Bid, Ask}
 use Rattle.holding.specs.Holding.{isPosition, isFill, averageAfter, positionAfter}
 use Rattle.holding.specs.Rows.{arePositions}
 use Rattle.holding.specs.declared.Fill.{Fill}
-use Rattle.holding.specs.declared.Position.{Position}
 use Rattle.position.specs.Ledger.{positionAt, isLedger, fresh, filled, settled, booked}
-use Rattle.position.specs.Examples.{one, two, held, minus}
+use Rattle.position.specs.Examples.{one, minus}
 use Rattle.position.specs.declared.PositionLedger.{PositionLedger}
 use Rattle.day.specs.Day.{dayBooked}
-use Rattle.day.specs.Numbers.{fillBy, firstFills, fillsBy, dayBookedBy}
+use Rattle.day.specs.Numbers.{fillBy, firstFills, dayBookedBy}
 
 -- a fill of a symbol, without commission
 abbrev fill : ℕ → Side → ℕ → ℕ → Fill

@@ -9,7 +9,7 @@ use lib.IntN.{ℤ}
 use lib.ListN.{length}
 use borrow.Author.Tests.{leb-true, eqb-true}
 use Rattle.types.specs.Limits.{maxLevels, lastSequence}
-use Rattle.types.specs.Replies.{done, refused}
+use Rattle.types.specs.Replies.{done}
 use Rattle.types.specs.declared.Side.{Side}
 use Rattle.types.specs.declared.Side.the-variants.{Bid, Ask}
 use Rattle.types.specs.declared.PriceLevel.{PriceLevel}

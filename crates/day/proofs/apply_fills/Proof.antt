@@ -17,12 +17,12 @@ use lib.WfN.{Nat·lt-wfRel}
 use borrow.Author.Tests.{lt-ltb, le-ltb}
 use mir.Syntax.{Ty, named, imm, w64, tyInt, tyBool, tyPtr, tyRef, loop}
 use mir.Val.{Val, vptr, vint, vbool}
-use base.Logic.{SProp, ent, ex, guard, emp, via, fst∗, snd∗, exI, exE, guardI, guardE, id⊢}
+use base.Logic.{SProp, ent, ex, guard, emp, via, fst∗, exI, exE, guardI, guardE, id⊢}
 use base.Fml.{GName, Lft, Share, Fml, ftrue, fat, froom, fdies, flft, fshr-bor}
 use prog.Memory.{Memory}
 use prog.Routine.{Routine}
 use prog.Wp.{Heap, Out, Env, afterSeq, afterBlock, afterTurn, Calls, Loops, Wp, atReturn, WpFn, Tables}
-use ghost.Atoms.{Atoms, sem}
+use ghost.Atoms.{Atoms}
 use contract.Monad.{Fun, fact}
 use contract.Running.{givenOf, tables, tablesOf}
 use types.Kit.{Given, Sq, runs, Item, ‵, raw, _⊛_, some, later, ⋆, anyQ, atRet, _$_, _∵_, !, qed, by, move, keep, drop as let-go, use0, use1, split, join, pick, rewrite, fsplit, fjoin, suffices, frame, await, done}
@@ -46,7 +46,7 @@ use denote.Triple.Entry.{onEntry}
 use denote.Triple.Spec.{Meets, tripleOf}
 use denote.Triple.Table.{entered, cited}
 use denote.Triple.Walked.{says, Stays, stay-none-slice, stay-none, walkOf, AllGo, goes-none, goes-none-slice, ends-at, walked, walk-meets}
-use denote.Triple.Clauses.{ensured, lasts}
+use denote.Triple.Clauses.{ensured}
 use denote.Exit.{yes}
 use Rattle.types.specs.declared.Side.the-variants.{Bid}
 use Rattle.amount.specs.Whole.{amount}
@@ -56,10 +56,11 @@ use Rattle.holding.proofs.Fill.Laws as Fil′
 use Rattle.position.specs.declared.PositionLedger.{PositionLedger}
 use Rattle.position.proofs.PositionLedger as Led
 use Rattle.position.proofs.PositionLedger.Laws as Led′
-use Rattle.day.specs.Day.{dayOf, dayBooked}
-use Rattle.day.specs.Inner.Walk.{begun, nextOf, allOf}
+use Rattle.day.specs.Day.{dayOf}
+use Rattle.day.specs.Inner.Walk.{begun, allOf}
 use Rattle.day.specs.declared.DayBooked.{DayBooked}
 use Rattle.day.proofs.Walk.{all-next, all-end, all-day}
+use Rattle.day.proofs.Calls.{ledgerVal, fillVal, dayVal, Begun, Booked, ToBegin, ToNext, to-begin, begin-asks, begin-says, to-next, next-asks, next-says}
 use Rattle.day.proofs.DayBooked as Day
 use Rattle.day.proofs.DayBooked.Laws as Day′
 use Rattle.day.proofs.begin as first
@@ -73,16 +74,6 @@ use Rattle.day.proofs.apply_fills.Key as key
 use Rattle.day.proofs.apply_fills.Statement as stated
 use Rattle.day.proofs.apply_fills.Code as code
 use Rattle.day.proofs.apply_fills.Code.Mir as text
-
--- a ledger, a fill and a day as the machine holds them
-abbrev ledgerVal : PositionLedger → Val
-ledgerVal l = S.val Led.the-type Led′.the-laws l
-
-abbrev fillVal : Fill → Val
-fillVal f = S.val Fil.the-type Fil′.the-laws f
-
-abbrev dayVal : DayBooked → Val
-dayVal k = S.val Day.the-type Day′.the-laws k
 
 -- what `getD` would give past the end, where nothing is asked
 abbrev no-fill : Fill
@@ -100,26 +91,10 @@ stayed = (stay-none (λ _. Led.the-row) yes, (stay-none-slice (0 ∷ []) tt (pla
 module _ {M : Type 1} (𝓤 : URA M) (H : Heap 𝓤) (A : Atoms 𝓤) (W : Given 𝓤 H A) (at-mem : Memory → SProp 𝓤) (run : Routine → Fun 𝓤) where
   -- the contracts of the two calls
   abbrev First : Contract 𝓤
-  First = tripleOf 𝓤 H A first.signature (first.spec 𝓤 H A at-mem run)
+  First = ToBegin 𝓤 H A W at-mem run
 
   abbrev Next : Contract 𝓤
-  Next = tripleOf 𝓤 H A next.signature (next.spec 𝓤 H A at-mem run)
-
-  -- what `book_next` is passed, asks and says
-  module _ (k : DayBooked) (f : Fill) where
-    abbrev to-next : Next .Ghost
-    to-next = ((tt, tt, tt, (k, (f, tt)), (dayVal k ∷ [], (fillVal f ∷ [], tt))), tt)
-
-    next-asks : Is Day.the-row k (dayVal k ∷ []) → Is Fil.the-row f (fillVal f ∷ []) → ent 𝓤 (emp 𝓤) (Next .pre to-next)
-    next-asks isK isF =
-        qed W [] ∵ nothing ! $ owned ! Fil.the-row (Is Fil.the-row) (S.makes Fil.the-type Fil′.the-plain 𝓤 H A) f _ isF $ fjoin ! $
-        owned ! Day.the-row (Is Day.the-row) (S.makes Day.the-type Day′.the-plain 𝓤 H A) k _ isK $ fjoin ! $ nothing ! $ join ! $ frame ! $ done !
-
-    abbrev Booked : DayBooked → Type 0
-    Booked r = dayOf r ≡ nextOf (dayOf k) f
-
-    next-says : (r : DayBooked) → ent 𝓤 (ensured 𝓤 H A next.ended (next.clauses 𝓤 H A at-mem run) tt (k, (f, tt)) tt r) (fact 𝓤 (Booked r))
-    next-says r = exE 𝓤 _ (λ ws. snd∗ 𝓤 (sem 𝓤 H A (lasts next.ended tt (k, (f, tt)) ws)) (fact 𝓤 (Booked r)))
+  Next = ToNext 𝓤 H A W at-mem run
 
   -- a ledger l, and fills fs at (block, place) that are lent for κ, held by the share q, with the ghost name γ
   module _ (κ : Lft) (q : Share) (block place : ℕ) (γ : GName) (fs : List Fill) (l : PositionLedger) (isL : Is Led.the-row l (ledgerVal l ∷ [])) (room : Room Fil.the-row (length fs)) where
@@ -149,19 +124,6 @@ module _ {M : Type 1} (𝓤 : URA M) (H : Heap 𝓤) (A : Atoms 𝓤) (W : Given
         says ! (e ∙ all-day l fs (room .0)) $ nothing ! $ move ! (1 ∷ 0 ∷ []) $ join ! $ frame ! $ nothing ! $ move ! (1 ∷ 0 ∷ []) $ fjoin ! $
         owned ! Led.the-row (Is Led.the-row) (S.makes Led.the-type Led′.the-plain 𝓤 H A) l _ isL $ fjoin ! $
         owned ! Day.the-row (Is Day.the-row) (S.makes Day.the-type Day′.the-plain 𝓤 H A) k _ isK $ move ! (1 ∷ 0 ∷ []) $ done !
-
-    -- what `begin` is passed, asks and says
-    abbrev to-first : First .Ghost
-    to-first = ((tt, tt, tt, (l, tt), (ledgerVal l ∷ [], tt)), tt)
-
-    first-asks : ent 𝓤 (emp 𝓤) (First .pre to-first)
-    first-asks = qed W [] ∵ nothing ! $ owned ! Led.the-row (Is Led.the-row) (S.makes Led.the-type Led′.the-plain 𝓤 H A) l _ isL $ fjoin ! $ nothing ! $ join ! $ frame ! $ done !
-
-    abbrev Begun : DayBooked → Type 0
-    Begun r = dayOf r ≡ begun l
-
-    first-says : (r : DayBooked) → ent 𝓤 (ensured 𝓤 H A first.ended (first.clauses 𝓤 H A at-mem run) tt (l, tt) tt r) (fact 𝓤 (Begun r))
-    first-says r = exE 𝓤 _ (λ ws. snd∗ 𝓤 (sem 𝓤 H A (lasts first.ended tt (l, tt) ws)) (fact 𝓤 (Begun r)))
 
     module _ (𝓣 : Tables 𝓤 H) (known-first : Triple 𝓤 (𝓣 .C first-symbol.name) First) (known-next : Triple 𝓤 (𝓣 .C next-symbol.name) Next) where
       abbrev C : Calls 𝓤 H
@@ -244,10 +206,10 @@ module _ {M : Type 1} (𝓤 : URA M) (H : Heap 𝓤) (A : Atoms 𝓤) (W : Given
             assigns ! (of-opd ! (load ! (from ! (hop ! (look ! 9 refl) (stop !))) (look-raw ! 0 refl))) (from ! (stop !)) (init ! 10 refl (S.lawful Fil.the-type Fil′.the-laws 𝓤 H A W .typed f _ isF .0)) $
             elem-back ! Fil.the-row s fs i no-fill (fillVal f ∷ []) block place small $ shuts-slice ! tt Fil.the-row s fs block place $
             -- it is booked, and the day that comes back lands in _3
-            use0 W (raw (Next .pre (to-next k f))) (next-asks k f isK isF) $
-            calls-at ! fm Next known-next (to-next k f) (and-then ! (load ! (from ! (stop !)) (look ! 3 refl)) (and-then ! (load ! (from ! (stop !)) (look ! 8 refl)) (no-more !))) (λ v.
+            use0 W (raw (Next .pre (to-next 𝓤 H A W at-mem run k f))) (next-asks 𝓤 H A W at-mem run k f isK isF) $
+            calls-at ! fm Next known-next (to-next 𝓤 H A W at-mem run k f) (and-then ! (load ! (from ! (stop !)) (look ! 3 refl)) (and-then ! (load ! (from ! (stop !)) (look ! 8 refl)) (no-more !))) (λ v.
             use1 W (later (some (λ (r : DayBooked). (‵ ftrue ⊛ ‵ (Day.the-row .own r (v ∷ []))) ⊛ raw (ensured 𝓤 H A next.ended (next.clauses 𝓤 H A at-mem run) tt (k, (f, tt)) tt r)))) (id⊢ 𝓤 _) $ await ! tt $ pick ! (λ r.
-            split ! $ move ! (1 ∷ []) $ use1 W (raw (fact 𝓤 (Booked k f r))) (next-says k f r) $ heard ! (Booked k f r) (λ e. split ! $ let-go ! $
+            split ! $ move ! (1 ∷ []) $ use1 W (raw (fact 𝓤 (Booked k f r))) (next-says 𝓤 H A W at-mem run k f r) $ heard ! (Booked k f r) (λ e. split ! $ let-go ! $
             peeks ! Day.the-row (Is Day.the-row) (shows 𝓤 H A Day.the-row) r (v ∷ []) (λ is.
             land ! (from ! (stop !)) (store ! 3 refl (S.lawful Day.the-type Day′.the-laws 𝓤 H A W .typed r _ is .0)) $
             rewrite ! 3 (λ (u : Val). ‵ (fat fullShare Day′.mir l₃ 0 u)) (ap only (S.tells Day.the-type Day′.the-laws r _ is)) refl $ let-go ! $
@@ -286,7 +248,7 @@ module _ {M : Type 1} (𝓤 : URA M) (H : Heap 𝓤) (A : Atoms 𝓤) (W : Given
             exE 𝓤 (λ (i : ℕ). ex 𝓤 (λ (k : DayBooked). Holds t i k)) (λ i.
             exE 𝓤 (λ (k : DayBooked). Holds t i k) (λ k. guardE 𝓤 (Facts t i k) (⋆ 𝓤 H A (At i k)) (λ f. turn-at t i k f)))
 
-        loops : (k : DayBooked) → Begun k → Is Day.the-row k (dayVal k ∷ []) → ent 𝓤 (⋆ 𝓤 H A (At 0 k)) (Wp 𝓤 H C Λ Locals (loop text.turn-1) Left)
+        loops : (k : DayBooked) → Begun l k → Is Day.the-row k (dayVal k ∷ []) → ent 𝓤 (⋆ 𝓤 H A (At 0 k)) (Wp 𝓤 H C Λ Locals (loop text.turn-1) Left)
         loops k e is =
             via 𝓤 (Inv n) (stand n 0 k (record { passed = omega arith; left = omega arith; comes = rw e; typed = is }))
             (loop-rule 𝓤 H (W .laws) 𝓣 _<_ (Nat·lt-wfRel .wf) Locals text.turn-1 Left Inv turns n)
@@ -302,10 +264,10 @@ module _ {M : Type 1} (𝓤 : URA M) (H : Heap 𝓤) (A : Atoms 𝓤) (W : Given
         -- the body up to the loop: the day begins in _3, and i in _4
         starts : Sq W Passed (runs C Λ Locals text.t-1 (atRet Locals Post))
         starts =
-            use0 W (raw (First .pre to-first)) first-asks $
-            calls-at ! fm First known-first to-first (and-then ! (load ! (from ! (stop !)) (look ! 15 refl)) (no-more !)) (λ v.
+            use0 W (raw (First .pre (to-begin 𝓤 H A W at-mem run l))) (begin-asks 𝓤 H A W at-mem run l isL) $
+            calls-at ! fm First known-first (to-begin 𝓤 H A W at-mem run l) (and-then ! (load ! (from ! (stop !)) (look ! 15 refl)) (no-more !)) (λ v.
             use1 W (later (some (λ (r : DayBooked). (‵ ftrue ⊛ ‵ (Day.the-row .own r (v ∷ []))) ⊛ raw (ensured 𝓤 H A first.ended (first.clauses 𝓤 H A at-mem run) tt (l, tt) tt r)))) (id⊢ 𝓤 _) $ await ! tt $ pick ! (λ r.
-            split ! $ move ! (1 ∷ []) $ use1 W (raw (fact 𝓤 (Begun r))) (first-says r) $ heard ! (Begun r) (λ e. split ! $ let-go ! $
+            split ! $ move ! (1 ∷ []) $ use1 W (raw (fact 𝓤 (Begun l r))) (begin-says 𝓤 H A W at-mem run l r) $ heard ! (Begun l r) (λ e. split ! $ let-go ! $
             peeks ! Day.the-row (Is Day.the-row) (shows 𝓤 H A Day.the-row) r (v ∷ []) (λ is.
             land ! (from ! (stop !)) (init ! 11 refl (S.lawful Day.the-type Day′.the-laws 𝓤 H A W .typed r _ is .0)) $
             rewrite ! 11 (λ (u : Val). ‵ (fat fullShare Day′.mir l₃ 0 u)) (ap only (S.tells Day.the-type Day′.the-laws r _ is)) refl $ let-go ! $

@@ -51,6 +51,7 @@ use Rattle.position.proofs.PositionLedger as Led
 use Rattle.position.proofs.PositionLedger.Laws as Led′
 use Rattle.day.specs.Day.{dayOf, dayBooked}
 use Rattle.day.specs.declared.DayBooked.{DayBooked}
+use Rattle.day.proofs.Calls.{ledgerVal, dayVal}
 use Rattle.day.proofs.DayBooked as Day
 use Rattle.day.proofs.DayBooked.Laws as Day′
 use Rattle.day.proofs.apply_fills as lent
@@ -61,15 +62,9 @@ use Rattle.day.proofs.apply_four.Key as key
 use Rattle.day.proofs.apply_four.Statement as stated
 use Rattle.day.proofs.apply_four.Code as code
 
--- the array's type; a ledger, a day and the array as the machine holds them
+-- the array's type, and the array as the machine holds it
 abbrev Four : RattleType
 Four = Array Fil.the-row 4
-
-abbrev ledgerVal : PositionLedger → Val
-ledgerVal l = S.val Led.the-type Led′.the-laws l
-
-abbrev dayVal : DayBooked → Val
-dayVal k = S.val Day.the-type Day′.the-laws k
 
 abbrev fillVals : List Fill → List Val
 fillVals fs = array-vals (S.vals Fil.the-type Fil′.the-laws) fs
