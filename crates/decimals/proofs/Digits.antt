@@ -9,7 +9,7 @@ use borrow.Author.Tests.{lt-ltb, le-ltb}
 use lib.Dec.{ltb}
 use lib.ListN.{length, length-append}
 use Rattle.io.specs.Digits.{glyph, digits, Fewest}
-use Rattle.decimals.specs.Decimals.{digit, lastDigits, decimal, pair}
+use Rattle.decimals.specs.Decimals.{digit, lastDigits, decimal, signedDecimal, pair}
 
 glyph-digit : (d : ℕ) → d < 10 → glyph d ≡ digit d
 glyph-digit d h = rw (lt-ltb d 10 h)
@@ -68,6 +68,21 @@ digits-short (suc k) n = go (ltb n 10) (digits-short k (n / 10))
 -- a number has 20 digits at most
 pub decimal-short : (n : ℕ) → length (decimal n) ≤ 20
 decimal-short n = digits-short 20 n
+
+-- with a sign: a minus sign first, or the digits alone
+pub minus-first : (negative : Bool) (n : ℕ) → negative ≡ true → signedDecimal negative n ≡ (45 ∷ []) ++ decimal n
+unfolding signedDecimal
+minus-first negative n e = rw e
+
+pub digits-alone : (negative : Bool) (n : ℕ) → negative ≡ false → signedDecimal negative n ≡ decimal n
+unfolding signedDecimal
+digits-alone negative n e = rw e
+
+-- which are 21 bytes at most
+pub signed-short : (negative : Bool) (n : ℕ) → length (signedDecimal negative n) ≤ 21
+unfolding signedDecimal
+signed-short true n = omega (arith, decimal-short n)
+signed-short false n = omega (arith, decimal-short n)
 
 -- one of two digits
 pub two-digits : (n : ℕ) → n < 100 → length (decimal n) ≤ 2

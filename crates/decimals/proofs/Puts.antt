@@ -47,6 +47,14 @@ put-end xs o out at i h l e =
 pub room : (xs o p : List ℕ) (at m n : ℕ) → Puts xs at o p m → at + length xs + n ≤ length o → m + n ≤ length p
 room xs o p at m n a h = omega (arith, a .behind, kept xs o p at m a)
 
+-- room for a piece and what follows it is room for the piece
+pub front-room : (xs left o : List ℕ) (at : ℕ) → at + length (xs ++ left) ≤ length o → at + length xs ≤ length o
+front-room xs left o at h = omega (arith, length-append xs left)
+
+-- and behind the piece for what follows it
+pub rest-room : {xs o p : List ℕ} {at m : ℕ} (left : List ℕ) → Puts xs at o p m → at + length (xs ++ left) ≤ length o → m + length left ≤ length p
+rest-room {xs} {o} {p} {at} {m} left a h = room xs o p at m (length left) a (omega (arith, length-append xs left))
+
 -- ── piece by piece ──
 
 -- of all that is to be put, this is left: put from here on, it gives what is wanted

@@ -1,11 +1,13 @@
--- A number in decimal digits, a pair of numbers as a line, and what putting bytes into memory leaves.
+-- A number in decimal digits, with a sign or without, a pair of numbers as a line, and what putting bytes into memory leaves.
 use Prim.Native.Nat.{ℕ, zero, suc, _+_, _/_, _%_}
-use mathlib.Core.Bool.{cond}
+use mathlib.Core.Bool.{Bool, cond}
 use mathlib.Core.Path.{_≡_}
 use mathlib.Core.List.{List, [], _∷_, _++_}
 use lib.Dec.{ltb}
+use lib.IntN.{ℤ, pos, natAbs}
 use lib.ListN.{length}
 use lib.Seq.{sets}
+use lib.Signed.{ltZ}
 
 -- the character of a digit
 abbrev pub digit : ℕ → ℕ
@@ -19,6 +21,14 @@ lastDigits (suc k) n = cond (ltb n 10) (digit n ∷ []) (lastDigits k (n / 10) +
 -- a number in decimal: 20 digits hold every u64
 abbrev pub decimal : ℕ → List ℕ
 decimal n = lastDigits 20 n
+
+-- a minus sign, if there is one, and a number in decimal
+unfoldable pub signedDecimal : Bool → ℕ → List ℕ
+signedDecimal negative n = cond negative (45 ∷ decimal n) (decimal n)
+
+-- a whole number in decimal, a minus sign before one below zero
+abbrev pub wholeDecimal : ℤ → List ℕ
+wholeDecimal z = signedDecimal (ltZ z (pos 0)) (natAbs z)
 
 -- two numbers, a space between them and a line feed after them
 unfoldable pub pair : ℕ → ℕ → List ℕ

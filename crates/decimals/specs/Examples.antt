@@ -2,7 +2,8 @@
 use Prim.Native.Nat.{ℕ}
 use mathlib.Core.Path.{_≡_, refl}
 use mathlib.Core.List.{List, [], _∷_}
-use Rattle.decimals.specs.Decimals.{lastDigits, decimal, pair}
+use lib.IntN.{pos, negℤ}
+use Rattle.decimals.specs.Decimals.{lastDigits, decimal, signedDecimal, wholeDecimal, pair}
 
 -- "0", "10", "907"
 small : (decimal 0 ≡ 48 ∷ []) × (decimal 10 ≡ 49 ∷ 48 ∷ []) × (decimal 907 ≡ 57 ∷ 48 ∷ 55 ∷ [])
@@ -15,6 +16,14 @@ largest :
     49 ∷ 56 ∷ 52 ∷ 52 ∷ 54 ∷ 55 ∷ 52 ∷ 52 ∷ 48 ∷ 55 ∷ 51 ∷ 55 ∷ 48 ∷ 57 ∷ 53 ∷ 53 ∷ 49 ∷ 54 ∷ 49 ∷ 53 ∷ []
 unfolding lastDigits
 largest = refl
+
+-- "-2", "27", "0"; the least i64: "-9223372036854775808"
+signed :
+    (wholeDecimal (negℤ (pos 2)) ≡ 45 ∷ 50 ∷ []) × (wholeDecimal (pos 27) ≡ 50 ∷ 55 ∷ []) × (wholeDecimal (negℤ (pos 0)) ≡ 48 ∷ [])
+    × (wholeDecimal (negℤ (pos 9223372036854775808)) ≡
+    45 ∷ 57 ∷ 50 ∷ 50 ∷ 51 ∷ 51 ∷ 55 ∷ 50 ∷ 48 ∷ 51 ∷ 54 ∷ 56 ∷ 53 ∷ 52 ∷ 55 ∷ 55 ∷ 53 ∷ 56 ∷ 48 ∷ 56 ∷ [])
+unfolding signedDecimal lastDigits
+signed = (refl, refl, refl, refl)
 
 -- "3 14" and a line feed
 line : pair 3 14 ≡ 51 ∷ 32 ∷ 49 ∷ 52 ∷ 10 ∷ []

@@ -1,9 +1,9 @@
-// Text put into memory that is lent, each piece behind the one before it: bytes, numbers in decimal digits, and pairs of numbers. Room is asked
-// for, so that nothing is cut.
+// Text put into memory that is lent, each piece behind the one before it: bytes, numbers in decimal digits, with a sign or without, and pairs of
+// numbers. Room is asked for, so that nothing is cut.
 ghost use Prim.Native.Nat.{_+_, _≤_};
 ghost use mathlib.Core.List.{[], _∷_};
 ghost use lib.ListN.{length};
-ghost use Rattle.decimals.specs.Decimals.{decimal, pair, Puts};
+ghost use Rattle.decimals.specs.Decimals.{decimal, signedDecimal, pair, Puts};
 
 // Puts bytes at a place, and answers the place behind them.
 pub fn put(out: &mut [u8], at: usize, text: &[u8]) -> usize
@@ -33,6 +33,18 @@ pub fn put_number(out: &mut [u8], at: usize, n: u64) -> usize
     let mut text = [0u8; 20];
     let k = io::decimal(n, &mut text);
     put(out, at, &text[..k])
+}
+
+// A whole number: its size, a minus sign before that if it is negative.
+pub fn put_whole(out: &mut [u8], at: usize, negative: bool, size: u64) -> usize
+    requires { ⌜ at + length (signedDecimal negative size) ≤ length (now out) ⌝ }
+    ensures { λ r. ⌜ Puts (signedDecimal negative size) at (now (out .entry)) (now (out .exit)) r ⌝ }
+{
+    if negative {
+        let digits = put_byte(out, at, b'-');
+        return put_number(out, digits, size);
+    }
+    put_number(out, at, size)
 }
 
 // Two numbers, a space between them and a line feed after them.
