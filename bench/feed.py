@@ -38,7 +38,7 @@ def timed(command):
 
 
 def program():
-    made = subprocess.run([ROOT / "bindings/program"], stdout=subprocess.PIPE, text=True)
+    made = subprocess.run([ROOT / "bindings/program", "feed"], stdout=subprocess.PIPE, text=True)
     if made.returncode != 0:
         sys.exit("There is no feed program to time.")
     path = Path(made.stdout.strip())

@@ -1,4 +1,4 @@
-# The library and the feed program for any processor, for bindings/archive and bindings/program: source this file. Rattle's compiler makes one
+# The library and the programs for any processor, for bindings/archive and bindings/program: source this file. Rattle's compiler makes one
 # module of LLVM and has its clang compile it for x86-64. Here that very module, and the switches, are put aside on their way to clang; for
 # aarch64 the module's C boundary is turned, and the same clang compiles it with the same switches.
 #

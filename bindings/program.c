@@ -1,4 +1,4 @@
-/* What the feed program asks of the system beside the C library, for a processor that the Rattle toolchain has no compiled code for: its
+/* What a program asks of the system beside the C library, for a processor that the Rattle toolchain has no compiled code for: its
    arguments, a file by name, and errno. The toolchain's declarations of these functions are assumed, here as there; nothing proves this file. */
 #include <errno.h>
 #include <fcntl.h>
