@@ -13,7 +13,7 @@ use Rattle.holding.specs.declared.Fill.{Fill}
 use Rattle.position.specs.declared.PositionLedger.{PositionLedger}
 use Rattle.position.specs.Ledger.{Change, isLedger, kept, booked, bookedAll}
 use Rattle.position.proofs.Kept.{fill-keeps}
-use Rattle.day.specs.Day.{ledgerAfter, replyTo, bookedInOrder, dayBooked}
+use Rattle.day.specs.Day.{ledgerAfter, replyAfter, bookedInOrder, dayBooked}
 use Rattle.day.specs.Meaning.{FillByFill, AsSingly, EachTaken, AllTaken, FirstRefused, DayKeeps, TestedFirst, InTwoCalls}
 
 -- booking singly is offering each in order
@@ -33,7 +33,7 @@ module _ (l : PositionLedger) (fs : List Fill) where
   of-none h = rw h
 
 -- a fill to a record that is no ledger
-none-booked : (l : PositionLedger) (f : Fill) → isLedger l ≡ false → refused 1 [] ≡ replyTo l f
+none-booked : (l : PositionLedger) (f : Fill) → isLedger l ≡ false → refused 1 [] ≡ replyAfter l f
 unfolding booked
 none-booked l f h = let e : booked l f ≡ kept l 1 [] = rw h in ap (λ (c : Change). c .reply) (sym e)
 
@@ -42,13 +42,13 @@ unfolding inOrder
 fill-by-fill l f fs = by (isLedger l) refl
   where
     -- the day of a ledger, by the fill's reply
-    on : (a : Reply (Unit {0})) → replyTo l f ≡ a →
+    on : (a : Reply (Unit {0})) → replyAfter l f ≡ a →
         ifDone a (oneMore (bookedInOrder (ledgerAfter l f) fs)) (ended l a) ≡ ifDone a (oneMore (dayBooked (ledgerAfter l f) fs)) (ended l a)
     on (done u) e = rw (of-ledger (ledgerAfter l f) fs (fill-keeps l f .ledger e))
     on (refused n vs) e = refl
 
-    by : (t : Bool) → isLedger l ≡ t → dayBooked l (f ∷ fs) ≡ ifDone (replyTo l f) (oneMore (dayBooked (ledgerAfter l f) fs)) (ended l (replyTo l f))
-    by true h = of-ledger l (f ∷ fs) h ∙ on (replyTo l f) refl
+    by : (t : Bool) → isLedger l ≡ t → dayBooked l (f ∷ fs) ≡ ifDone (replyAfter l f) (oneMore (dayBooked (ledgerAfter l f) fs)) (ended l (replyAfter l f))
+    by true h = of-ledger l (f ∷ fs) h ∙ on (replyAfter l f) refl
     by false h = of-none l (f ∷ fs) h ∙ ap (λ (a : Reply (Unit {0})). ifDone a (oneMore (dayBooked (ledgerAfter l f) fs)) (ended l a)) (none-booked l f h)
 
 pub as-singly : AsSingly
@@ -56,7 +56,7 @@ unfolding dayBooked bookedAll
 as-singly l fs = by (isLedger l)
   where
     by : (t : Bool) → let day = cond t (bookedInOrder l fs) (ended l (refused 1 [])) in day .stands ≡ bookedAll l (take (day .taken) fs)
-    by true = run-stands ledgerAfter replyTo l fs ∙ singly l _
+    by true = run-stands ledgerAfter replyAfter l fs ∙ singly l _
     by false = refl
 
 pub each-taken : EachTaken
@@ -64,7 +64,7 @@ unfolding dayBooked
 each-taken l fs d i = by (isLedger l)
   where
     by : (t : Bool) → i < cond t (bookedInOrder l fs) (ended l (refused 1 [])) .taken → booked (bookedAll l (take i fs)) (getD fs i d) .reply ≡ done tt
-    by true h = rw (sym (singly l (take i fs))) (run-each ledgerAfter replyTo d l fs i h)
+    by true h = rw (sym (singly l (take i fs))) (run-each ledgerAfter replyAfter d l fs i h)
     by false h = absurd (omega arith)
 
 pub all-taken : AllTaken
@@ -72,17 +72,17 @@ unfolding dayBooked
 all-taken l fs = by (isLedger l)
   where
     by : (t : Bool) → let day = cond t (bookedInOrder l fs) (ended l (refused 1 [])) in day .reply ≡ done tt → day .taken ≡ length fs
-    by true e = run-all ledgerAfter replyTo l fs e
+    by true e = run-all ledgerAfter replyAfter l fs e
     by false e = never (refused 1 []) 1 [] e refl
 
 pub first-refused : FirstRefused
 first-refused l fs d n vs h e =
     let same = of-ledger l fs h in
-    let r = run-first ledgerAfter replyTo d l fs n vs (rw same at e) in
+    let r = run-first ledgerAfter replyAfter d l fs n vs (rw same at e) in
     record { is-there = rw same (r .0); its-own = rw same (r .1); changes-nothing = rw same (fill-keeps _ _ .same n vs (r .1)) }
 
 pub day-keeps : DayKeeps
-day-keeps l fs h = rw (of-ledger l fs h) (run-keeps ledgerAfter replyTo (λ (m : PositionLedger). isLedger m ≡ true) (λ m f _. fill-keeps m f .ledger) l fs h)
+day-keeps l fs h = rw (of-ledger l fs h) (run-keeps ledgerAfter replyAfter (λ (m : PositionLedger). isLedger m ≡ true) (λ m f _. fill-keeps m f .ledger) l fs h)
 
 pub tested-first : TestedFirst
 unfolding inOrder
@@ -93,6 +93,6 @@ in-two-calls l fs gs = by (isLedger l) refl
   where
     by : (t : Bool) → isLedger l ≡ t → dayBooked l (fs ++ gs) ≡ andThen (dayBooked l fs) (λ (m : PositionLedger). dayBooked m gs)
     by true h =
-        of-ledger l (fs ++ gs) h ∙ run-append ledgerAfter replyTo l fs gs ∙
+        of-ledger l (fs ++ gs) h ∙ run-append ledgerAfter replyAfter l fs gs ∙
         rw (of-ledger l fs h, of-ledger (bookedInOrder l fs .stands) gs (rw (of-ledger l fs h) at (day-keeps l fs h)))
     by false h = rw (of-none l (fs ++ gs) h, of-none l fs h)

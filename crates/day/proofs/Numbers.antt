@@ -9,23 +9,23 @@ use lib.IntN.{ℤ, pos, natAbs}
 use lib.ListN.{length, drop, length-drop}
 use lib.Seq.{drop-drop, drop-length}
 use lib.Signed.{ltZ}
-use Rattle.day.specs.Numbers.{isUpTo, word, makeFill, firstFill, firstFills, fillsBy}
+use Rattle.day.specs.Numbers.{isUpTo, maxWord, makeFill, firstFill, firstFills, fillsBy}
 
 up-to : (most : ℕ) (z : ℤ) → isUpTo most z ≡ true → natAbs z ≤ most
 up-to most z e = leb-true _ _ (and-eq-true-iff (not (ltZ z (pos 0))) _ .0 e .1)
 
 -- numbers that make a fill fit their bits
 pub record Fitting (symbol quantity price : ℤ) : Type 0 where
-  pub symbol-fits : natAbs symbol ≤ word
-  pub quantity-fits : natAbs quantity ≤ word
-  pub price-fits : natAbs price ≤ word
+  pub symbol-fits : natAbs symbol ≤ maxWord
+  pub quantity-fits : natAbs quantity ≤ maxWord
+  pub price-fits : natAbs price ≤ maxWord
 
 pub fitting : (symbol side quantity price : ℤ) → makeFill symbol side quantity price ≡ true → Fitting symbol quantity price
 fitting symbol side quantity price e =
-    let a = and-eq-true-iff (isUpTo word symbol) _ .0 e in
+    let a = and-eq-true-iff (isUpTo maxWord symbol) _ .0 e in
     let b = and-eq-true-iff (isUpTo 1 side) _ .0 (a .1) in
-    let c = and-eq-true-iff (isUpTo word quantity) _ .0 (b .1) in
-    record { symbol-fits = up-to word symbol (a .0); quantity-fits = up-to word quantity (c .0); price-fits = up-to word price (c .1) }
+    let c = and-eq-true-iff (isUpTo maxWord quantity) _ .0 (b .1) in
+    record { symbol-fits = up-to maxWord symbol (a .0); quantity-fits = up-to maxWord quantity (c .0); price-fits = up-to maxWord price (c .1) }
 
 -- the first five numbers make the first fill
 pub fills-next : (ns : List ℤ) → 5 ≤ length ns → fillsBy ns ≡ firstFill ns ∷ fillsBy (drop 5 ns)

@@ -15,7 +15,7 @@ use Rattle.types.proofs.InOrders.{counting-none}
 use Rattle.holding.specs.declared.Fill.{Fill}
 use Rattle.position.specs.declared.PositionLedger.{PositionLedger}
 use Rattle.position.specs.Ledger.{isLedger, booked}
-use Rattle.day.specs.Day.{ledgerAfter, replyTo, bookedInOrder, dayBooked}
+use Rattle.day.specs.Day.{ledgerAfter, replyAfter, bookedInOrder, dayBooked}
 use Rattle.day.specs.Inner.Walk.{begun, nextOf, allOf}
 use Rattle.day.proofs.Steps.{goes-on, stops, is-over}
 
@@ -41,9 +41,9 @@ all-refused l k n vs (f ∷ fs) = all-refused l k n vs fs
 all-open : (l : PositionLedger) (k : ℕ) (fs : List Fill) → k + length fs < 2 ^ 64 → allOf (so-far l k (done tt)) fs ≡ counting k (bookedInOrder l fs)
 unfolding allOf nextOf
 all-open l k [] h = is-over l k _ refl
-all-open l k (f ∷ fs) h = by (replyTo l f) refl (λ m j. all-open m j fs)
+all-open l k (f ∷ fs) h = by (replyAfter l f) refl (λ m j. all-open m j fs)
   where
-    by : (a : Reply (Unit {0})) → replyTo l f ≡ a → ((m : PositionLedger) (j : ℕ) → j + length fs < 2 ^ 64 → allOf (so-far m j (done tt)) fs ≡ counting j (bookedInOrder m fs))
+    by : (a : Reply (Unit {0})) → replyAfter l f ≡ a → ((m : PositionLedger) (j : ℕ) → j + length fs < 2 ^ 64 → allOf (so-far m j (done tt)) fs ≡ counting j (bookedInOrder m fs))
         → allOf (nextOf (so-far l k (done tt)) f) fs ≡ counting k (bookedInOrder l (f ∷ fs))
     by (done u) e rest =
         rw (e, mod-eq-of-lt {n = k + 1} {m = 2 ^ 64} (omega arith))

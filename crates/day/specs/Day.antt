@@ -14,14 +14,14 @@ abbrev pub ledgerAfter : PositionLedger → Fill → PositionLedger
 ledgerAfter l f = booked l f .ledger
 
 -- what the fill is answered
-abbrev pub replyTo : PositionLedger → Fill → Reply (Unit {0})
-replyTo l f = booked l f .reply
+abbrev pub replyAfter : PositionLedger → Fill → Reply (Unit {0})
+replyAfter l f = booked l f .reply
 
 -- the fills one by one, as `booked` takes them, until one is refused
 abbrev pub bookedInOrder : PositionLedger → List Fill → Run PositionLedger
-bookedInOrder = inOrder ledgerAfter replyTo
+bookedInOrder = inOrder ledgerAfter replyAfter
 
--- `apply_fills`: 1 at once if the record is no ledger, with no fills too
+-- `apply_fills`: 1 at once if the record is no ledger, with no fills too; else the fills in order, until one is refused
 unfoldable pub dayBooked : PositionLedger → List Fill → Run PositionLedger
 dayBooked l fs = cond (isLedger l) (bookedInOrder l fs) (ended l (refused 1 []))
 

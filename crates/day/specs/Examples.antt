@@ -32,6 +32,7 @@ worked =
     pos 0 ∷ pos 0 ∷ pos 3 ∷ pos 100 ∷ pos 2 ∷ pos 0 ∷ pos 0 ∷ pos 2 ∷ pos 101 ∷ pos 0 ∷
     pos 0 ∷ pos 1 ∷ pos 4 ∷ pos 110 ∷ pos 1 ∷ pos 0 ∷ pos 1 ∷ pos 3 ∷ pos 90 ∷ pos 0 ∷ []
 
+-- all four are taken: cash 10205, commission 3, and -2 at 90 with 27 realized
 pub worked-day :
     let day = dayBookedBy (fresh (pos 10000)) worked in
     (told day ≡ (4, done tt, pos 10205, minus 2)) × (day .stands .commission .value ≡ pos 3)
@@ -54,10 +55,11 @@ pub edges :
 unfolding dayBooked inOrder booked settled filled isLedger arePositions isFill isPosition positionAfter averageAfter allTo
 edges = (refl, refl, refl)
 
--- no fills; and an average where there are no lots, which is no ledger, with no fills, with one and with numbers that make none
+-- an average where there are no lots
 abbrev no-ledger : PositionLedger
 no-ledger = one (pos 9) (pos 0) 1
 
+-- no fills to a ledger are 0; to a record that is none, they are 1, as a fill is, and as numbers are that make none
 pub none-taken :
     (dayBooked (fresh (pos 9)) [] ≡ ended (fresh (pos 9)) (done tt))
     × (dayBooked no-ledger [] ≡ ended no-ledger (refused 1 []))

@@ -31,12 +31,13 @@ EachTaken =
 abbrev pub AllTaken : Type 0
 AllTaken = (l : PositionLedger) (fs : List Fill) → let day = dayBooked l fs in day .reply ≡ done tt → day .taken ≡ length fs
 
--- Where it is a refusal, that is the refusal of the fill behind those that were taken, booked to the ledger that they left, which it leaves as it is.
+-- The fill behind those that were taken is there; booked to the ledger that they left it is answered so, and leaves that ledger as it is.
 pub record Refused (l : PositionLedger) (fs : List Fill) (d : Fill) (n : ℕ) (vs : List ℤ) : Type 0 where
   pub is-there : dayBooked l fs .taken < length fs
   pub its-own : let day = dayBooked l fs in booked (day .stands) (getD fs (day .taken) d) .reply ≡ refused n vs
   pub changes-nothing : let day = dayBooked l fs in booked (day .stands) (getD fs (day .taken) d) .ledger ≡ day .stands
 
+-- Where the answer to a ledger is a refusal, it is that fill's.
 abbrev pub FirstRefused : Type 0
 FirstRefused = (l : PositionLedger) (fs : List Fill) (d : Fill) (n : ℕ) (vs : List ℤ) → isLedger l ≡ true → dayBooked l fs .reply ≡ refused n vs → Refused l fs d n vs
 
@@ -49,6 +50,7 @@ pub record AtOnce (l : PositionLedger) : Type 0 where
   pub malformed : isLedger l ≡ false → (fs : List Fill) → dayBooked l fs ≡ ended l (refused 1 [])
   pub no-fills : isLedger l ≡ true → dayBooked l [] ≡ ended l (done tt)
 
+-- And so it is with every record.
 abbrev pub TestedFirst : Type 0
 TestedFirst = (l : PositionLedger) → AtOnce l
 

@@ -22,12 +22,12 @@ abbrev pub isUpTo : ℕ → ℤ → Bool
 isUpTo most z = not (ltZ z (pos 0)) && sizedWithin most z
 
 -- the largest number of 32 bits, which a symbol, a quantity and a price have
-abbrev pub word : ℕ
-word = 4294967295
+abbrev pub maxWord : ℕ
+maxWord = 4294967295
 
 -- numbers that make a fill: a side is 0 or 1, and the others fit their bits
 abbrev pub makeFill : ℤ → ℤ → ℤ → ℤ → Bool
-makeFill symbol side quantity price = isUpTo word symbol && (isUpTo 1 side && (isUpTo word quantity && isUpTo word price))
+makeFill symbol side quantity price = isUpTo maxWord symbol && (isUpTo 1 side && (isUpTo maxWord quantity && isUpTo maxWord price))
 
 -- numbers that make none count as this one, which is outside its limits: no symbol has its number
 abbrev pub noFill : Fill

@@ -3,7 +3,7 @@
 ghost use mathlib.Core.Path.{_≡_};
 ghost use Rattle.types.specs.Answers.{replyOfOutcome};
 ghost use Rattle.day.specs.Day.{dayOf, dayBooked};
-ghost use Rattle.day.specs.Inner.Walk.{begun, counted, nextOf};
+ghost use Rattle.day.specs.Inner.Walk.{begun, oneIfTaken, nextOf};
 use holding::Fill;
 use position::PositionLedger;
 use position::Totals;
@@ -46,7 +46,7 @@ fn begin(ledger: PositionLedger) -> DayBooked
 
 // 1 for a fill that was taken, 0 for another.
 fn counts(outcome: Outcome) -> u64
-    ensures { λ r. ⌜ r ≡ counted (replyOfOutcome outcome) ⌝ }
+    ensures { λ r. ⌜ r ≡ oneIfTaken (replyOfOutcome outcome) ⌝ }
 {
     match outcome {
         Outcome::Done => 1,

@@ -11,8 +11,8 @@ use Rattle.told.specs.Numbers.{told, tell, nothing}
 use Rattle.position.specs.declared.PositionLedger.{PositionLedger}
 use Rattle.position.specs.Ledger.{isMoney, fresh}
 use Rattle.holding.specs.declared.Fill.{Fill}
-use Rattle.day.specs.Numbers.{word, firstFill, dayBookedBy}
-use Rattle.day_keeping.specs.Keeping.{numbersOf}
+use Rattle.day.specs.Numbers.{maxWord, firstFill, dayBookedBy}
+use Rattle.day_keeping.specs.Keeping.{fillNumbers}
 use Rattle.day_printing.specs.Booked.{refusedText, dayText}
 
 -- the line of the fill behind those that were taken; 0 where there is no place for one
@@ -33,4 +33,4 @@ openedText cash opened numbers lines = cond (isMoney cash) (bookedText (fresh ca
 
 -- the numbers by which a fill is kept make that fill again, whatever follows them: its symbol, its quantity and its price have 32 bits
 abbrev pub MakeItAgain : Type 0
-MakeItAgain = (f : Fill) (more : List ℤ) → f .symbol ≤ word → f .quantity ≤ word → f .price ≤ word → firstFill (numbersOf f ++ more) ≡ f
+MakeItAgain = (f : Fill) (more : List ℤ) → f .symbol ≤ maxWord → f .quantity ≤ maxWord → f .price ≤ maxWord → firstFill (fillNumbers f ++ more) ≡ f

@@ -7,7 +7,7 @@ use lib.IntN.{ℤ, pos}
 use lib.ListN.{replicate}
 use Rattle.amount.specs.Whole.{amount}
 use Rattle.numerals.specs.Numerals.{digitsOn}
-use Rattle.day_lines.specs.Words.{spoken, parts, full}
+use Rattle.day_lines.specs.Words.{spoken, parts, notEmpty}
 use Rattle.day_lines.specs.Lines.{saidBy}
 use Rattle.day_keeping.specs.Keeping.{Kept}
 use Rattle.day_collecting.specs.Collecting.{textTaken}
@@ -26,10 +26,10 @@ start = at 1 0 (pos 0) 0 true true (replicate 10 (pos 0)) (replicate 2 0)
 
 -- an empty line, then `cash 5` without its line feed: the cash of line 2
 last : textTaken start [] (10 ∷ 99 ∷ 97 ∷ 115 ∷ 104 ∷ 32 ∷ 53 ∷ []) ≡ at 3 2 (pos 5) 0 false true (replicate 10 (pos 0)) (replicate 2 0)
-unfolding textTaken spoken parts full digitsOn saidBy
+unfolding textTaken spoken parts notEmpty digitsOn saidBy
 last = refl
 
 -- `x`, then a line that is not read: nothing is kept
 spoilt : textTaken start [] (120 ∷ 10 ∷ 99 ∷ 97 ∷ 115 ∷ 104 ∷ 32 ∷ 53 ∷ []) ≡ at 2 0 (pos 0) 0 false false (replicate 10 (pos 0)) (replicate 2 0)
-unfolding textTaken spoken parts full digitsOn saidBy
+unfolding textTaken spoken parts notEmpty digitsOn saidBy
 spoilt = refl

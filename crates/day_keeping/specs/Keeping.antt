@@ -38,8 +38,8 @@ cashTaken cash d =
     (spoilt d)
 
 -- the five numbers of a fill: symbol, side (0 a bid, 1 an ask), quantity, price, commission
-abbrev pub numbersOf : Fill → List ℤ
-numbersOf f = pos (f .symbol) ∷ pos (sideNumber (f .side)) ∷ pos (f .quantity) ∷ pos (f .price) ∷ f .commission .value ∷ []
+abbrev pub fillNumbers : Fill → List ℤ
+fillNumbers f = pos (f .symbol) ∷ pos (sideNumber (f .side)) ∷ pos (f .quantity) ∷ pos (f .price) ∷ f .commission .value ∷ []
 
 -- one fill more is kept
 abbrev pub oneFill : Collected → Collected
@@ -55,7 +55,7 @@ fillKept f k =
     cond (ltb (k .day .fills) 100000)
     (record {
       day = oneFill (k .day);
-      numbers = sets (k .numbers) (5 * k .day .fills) (numbersOf f);
+      numbers = sets (k .numbers) (5 * k .day .fills) (fillNumbers f);
       lines = set (k .lines) (k .day .fills) (k .day .line);
     })
     (with k (spoilt (k .day)))

@@ -4,7 +4,7 @@ ghost use mathlib.Core.Path.{_≡_};
 ghost use Prim.Native.Nat.{_+_, _≤_};
 ghost use lib.Seq.{sets};
 ghost use Rattle.day_lines.specs.Lines.{said};
-ghost use Rattle.day_keeping.specs.Keeping.{kept, spoilt, cashTaken, numbersOf, fillKept, lineTaken, nextLine};
+ghost use Rattle.day_keeping.specs.Keeping.{kept, spoilt, cashTaken, fillNumbers, fillKept, lineTaken, nextLine};
 use amount::Amount;
 use day_lines::Said;
 use holding::Fill;
@@ -65,7 +65,7 @@ fn open(day: Collected, cash: Amount) -> Collected
 // Puts the numbers of a fill at a place: symbol, side (0 a bid, 1 an ask), quantity, price, commission.
 fn put_fill(numbers: &mut [i64; 500000], at: usize, fill: Fill)
     requires { ⌜ at + 5 ≤ 500000 ⌝ }
-    ensures { λ _. ⌜ now (numbers .exit) ≡ sets (now (numbers .entry)) at (numbersOf fill) ⌝ }
+    ensures { λ _. ⌜ now (numbers .exit) ≡ sets (now (numbers .entry)) at (fillNumbers fill) ⌝ }
 {
     let side = fill.side;
     let symbol = fill.symbol as i64;

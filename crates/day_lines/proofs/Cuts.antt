@@ -10,7 +10,7 @@ use lib.Dec.{eqb, ltb}
 use lib.ListN.{length, take, drop, getD, length-drop, drop-of-length-le}
 use lib.Seq.{drop-cons, drop-drop, take-suc, take-all, length-take-le, getD-drop}
 use Rattle.types.proofs.Booleans.{by}
-use Rattle.day_lines.specs.Words.{spoken, isBlank, onto, parts, full, words, wordAt, alike}
+use Rattle.day_lines.specs.Words.{spoken, isBlank, putBefore, parts, notEmpty, words, wordAt, alike}
 use Rattle.day_lines.specs.Inner.Places.{Starts, Ends, Next}
 
 -- ── up to the remark ──
@@ -46,29 +46,29 @@ unfolding parts
 before-none [] = refl
 before-none (b ∷ bs) = by (isBlank b) (λ e. rw e) (λ e. rw e (go (parts bs)))
   where
-    go : (ps : List (List ℕ)) → onto b ps ≡ before [] (onto b ps)
+    go : (ps : List (List ℕ)) → putBefore b ps ≡ before [] (putBefore b ps)
     go [] = refl
     go (p ∷ ps) = refl
 
-before-onto : (w : List ℕ) (b : ℕ) (ps : List (List ℕ)) → before w (onto b ps) ≡ before (w ++ (b ∷ [])) ps
+before-onto : (w : List ℕ) (b : ℕ) (ps : List (List ℕ)) → before w (putBefore b ps) ≡ before (w ++ (b ∷ [])) ps
 before-onto w b [] = refl
 before-onto w b (p ∷ ps) = ap (λ (l : List ℕ). l ∷ ps) (sym (append-assoc w (b ∷ []) p))
 
 -- a part before parts: a word, unless it is empty
-full-first : (w : List ℕ) (ps : List (List ℕ)) → full (w ∷ ps) ≡ full (w ∷ []) ++ full ps
-unfolding full
+full-first : (w : List ℕ) (ps : List (List ℕ)) → notEmpty (w ∷ ps) ≡ notEmpty (w ∷ []) ++ notEmpty ps
+unfolding notEmpty
 full-first [] ps = refl
 full-first (b ∷ w) ps = refl
 
-full-before : (w : List ℕ) (ps : List (List ℕ)) → full (before w ([] ∷ ps)) ≡ full (w ∷ []) ++ full ([] ∷ ps)
-unfolding full
+full-before : (w : List ℕ) (ps : List (List ℕ)) → notEmpty (before w ([] ∷ ps)) ≡ notEmpty (w ∷ []) ++ notEmpty ([] ∷ ps)
+unfolding notEmpty
 full-before w ps = rw (append-nil w) (full-first w ps)
 
 -- ── blanks passed over ──
 
 module _ (s : List ℕ) (i : ℕ) (h : i < length s) where
   pub blank-passed : isBlank (getD s i 0) ≡ true → words (drop (i + 1) s) ≡ words (drop i s)
-  unfolding parts full
+  unfolding parts notEmpty
   blank-passed e = rw (add-one i, drop-cons s i 0 h, e)
 
 -- ── a word passed over ──
@@ -83,12 +83,12 @@ module _ (s : List ℕ) (at i : ℕ) (after : at ≤ i) where
       let m : at + (i - at) ≡ i = omega arith in
       let l : i - at < length (drop at s) = omega (arith, length-drop at s) in
       let x : getD (drop at s) (i - at) 0 ≡ getD s i 0 = getD-drop at s (i - at) 0 ∙ ap (λ (j : ℕ). getD s j 0) m in
-      let there : parts (drop i s) ≡ onto (getD s i 0) (parts (drop (suc i) s)) = rw (drop-cons s i 0 h, n) in
+      let there : parts (drop i s) ≡ putBefore (getD s i 0) (parts (drop (suc i) s)) = rw (drop-cons s i 0 h, n) in
       e ∙ rw (there, k, add-one i, take-suc (drop at s) (i - at) 0 l, x) (before-onto (take (i - at) (drop at s)) (getD s i 0) (parts (drop (suc i) s)))
 
   pub word-blank :
       i < length s → isBlank (getD s i 0) ≡ true → parts (drop at s) ≡ before (take (i - at) (drop at s)) (parts (drop i s)) →
-      words (drop at s) ≡ full (take (i - at) (drop at s) ∷ []) ++ words (drop i s)
+      words (drop at s) ≡ notEmpty (take (i - at) (drop at s) ∷ []) ++ words (drop i s)
   unfolding parts
   word-blank h b e =
       let there : parts (drop i s) ≡ [] ∷ parts (drop (suc i) s) = rw (drop-cons s i 0 h, b) in
@@ -96,7 +96,7 @@ module _ (s : List ℕ) (at i : ℕ) (after : at ≤ i) where
 
   pub word-last :
       length s ≤ i → parts (drop at s) ≡ before (take (i - at) (drop at s)) (parts (drop i s)) →
-      words (drop at s) ≡ full (take (i - at) (drop at s) ∷ []) ++ words (drop i s)
+      words (drop at s) ≡ notEmpty (take (i - at) (drop at s) ∷ []) ++ words (drop i s)
   unfolding parts
   word-last h e =
       let there : parts (drop i s) ≡ [] ∷ [] = rw (drop-of-length-le s h) in
@@ -117,13 +117,13 @@ word-start s at = let n : at - at ≡ 0 = omega arith in rw n (before-none (drop
 
 -- ── what is left behind a word ──
 
-some-full : (w : List ℕ) → 0 < length w → full (w ∷ []) ≡ w ∷ []
-unfolding full
+some-full : (w : List ℕ) → 0 < length w → notEmpty (w ∷ []) ≡ w ∷ []
+unfolding notEmpty
 some-full [] h = absurd (omega arith)
 some-full (b ∷ w) h = refl
 
 words-none : (s : List ℕ) (at : ℕ) → length s ≤ at → words (drop at s) ≡ []
-unfolding parts full
+unfolding parts notEmpty
 words-none s at h = rw (drop-of-length-le s h)
 
 module _ (s : List ℕ) (at end : ℕ) (e : Ends s at end) where

@@ -6,7 +6,7 @@ use Rattle.amount.specs.declared.Amount.{Amount}
 use Rattle.types.specs.declared.Side.{Side}
 use Rattle.types.specs.declared.Side.the-variants.{Bid, Ask}
 use Rattle.day_lines.specs.Words.{spoken, words, alike}
-use Rattle.numerals.specs.Numerals.{upTo, signedOf}
+use Rattle.numerals.specs.Numerals.{numeralUpTo, signedOf}
 use Rattle.numerals.specs.declared.Number.{Number}
 use Rattle.numerals.specs.declared.Number.the-variants as N
 use Rattle.day_lines.specs.declared.Sided.{Sided}
@@ -29,8 +29,8 @@ abbrev pub ask : List ℕ
 ask = 97 ∷ 115 ∷ 107 ∷ []
 
 -- a word as a side
-abbrev pub sideOf : List ℕ → Sided
-sideOf w = cond (alike w bid) (D.Is Bid) (cond (alike w ask) (D.Is Ask) D.Other)
+abbrev pub sideWord : List ℕ → Sided
+sideWord w = cond (alike w bid) (D.Is Bid) (cond (alike w ask) (D.Is Ask) D.Other)
 
 -- what follows from a number; a word that is none makes the line none of a day
 abbrev pub ifNumber : Number → (ℕ → Said) → Said
@@ -56,7 +56,7 @@ fillSaid symbol side quantity price commission =
 -- five words
 abbrev pub fillLine : List ℕ → List ℕ → List ℕ → List ℕ → List ℕ → Said
 fillLine symbol side quantity price commission =
-    fillSaid (upTo 4294967295 symbol) (sideOf side) (upTo 4294967295 quantity) (upTo 4294967295 price) (signedOf commission)
+    fillSaid (numeralUpTo 4294967295 symbol) (sideWord side) (numeralUpTo 4294967295 quantity) (numeralUpTo 4294967295 price) (signedOf commission)
 
 -- an opening cash of this amount
 abbrev pub cashSaid : Signed → Said

@@ -15,24 +15,24 @@ abbrev pub isBlank : ℕ → Bool
 isBlank b = eqb b 32 || (eqb b 9 || eqb b 13)
 
 -- a byte put before the first part
-abbrev pub onto : ℕ → List (List ℕ) → List (List ℕ)
-onto b [] = (b ∷ []) ∷ []
-onto b (p ∷ ps) = (b ∷ p) ∷ ps
+abbrev pub putBefore : ℕ → List (List ℕ) → List (List ℕ)
+putBefore b [] = (b ∷ []) ∷ []
+putBefore b (p ∷ ps) = (b ∷ p) ∷ ps
 
 -- the parts of a text between its blanks; where blanks stand side by side, or at an end, a part is empty
 unfoldable pub parts : List ℕ → List (List ℕ)
 parts [] = [] ∷ []
-parts (b ∷ bs) = cond (isBlank b) ([] ∷ parts bs) (onto b (parts bs))
+parts (b ∷ bs) = cond (isBlank b) ([] ∷ parts bs) (putBefore b (parts bs))
 
 -- the parts that are not empty
-unfoldable pub full : List (List ℕ) → List (List ℕ)
-full [] = []
-full ([] ∷ ps) = full ps
-full ((b ∷ p) ∷ ps) = (b ∷ p) ∷ full ps
+unfoldable pub notEmpty : List (List ℕ) → List (List ℕ)
+notEmpty [] = []
+notEmpty ([] ∷ ps) = notEmpty ps
+notEmpty ((b ∷ p) ∷ ps) = (b ∷ p) ∷ notEmpty ps
 
 -- the words of a text
 abbrev pub words : List ℕ → List (List ℕ)
-words s = full (parts s)
+words s = notEmpty (parts s)
 
 -- the word of an index, from 0; no byte where there is none
 abbrev pub wordAt : List ℕ → ℕ → List ℕ

@@ -4,8 +4,8 @@ ghost use mathlib.Core.Path.{_≡_};
 ghost use Prim.Native.Nat.{_≤_};
 ghost use lib.ListN.{length, take};
 ghost use Rattle.day_lines.specs.Words.{spoken, wordAt, words as wordsOf};
-ghost use Rattle.numerals.specs.Numerals.{upTo, signedOf};
-ghost use Rattle.day_lines.specs.Lines.{sideOf, cashSaid, fillSaid, cashLine, fillLine, saidBy, said};
+ghost use Rattle.numerals.specs.Numerals.{numeralUpTo, signedOf};
+ghost use Rattle.day_lines.specs.Lines.{sideWord, cashSaid, fillSaid, cashLine, fillLine, saidBy, said};
 ghost use Rattle.numerals.specs.Inner.Sizes.{sizeOf};
 
 mod words; // words.rt: where the words of a text stand
@@ -49,7 +49,7 @@ fn spoken_end(line: &[u8]) -> usize
 }
 
 fn side(word: &[u8]) -> Sided
-    ensures { λ r. ⌜ r ≡ sideOf (now (word .entry)) ⌝ }
+    ensures { λ r. ⌜ r ≡ sideWord (now (word .entry)) ⌝ }
 {
     if same(word, &[b'b', b'i', b'd']) {
         return Sided::Is(Side::Bid);
@@ -62,7 +62,7 @@ fn side(word: &[u8]) -> Sided
 
 // The word of an index as a number of 32 bits.
 fn small(text: &[u8], index: usize) -> Number
-    ensures { λ r. ⌜ (r ≡ upTo 4294967295 (wordAt (now (text .entry)) index)) × (sizeOf r ≤ 4294967295) ⌝ }
+    ensures { λ r. ⌜ (r ≡ numeralUpTo 4294967295 (wordAt (now (text .entry)) index)) × (sizeOf r ≤ 4294967295) ⌝ }
 {
     read_number(word(text, index), u32::MAX as u64)
 }

@@ -11,7 +11,7 @@ use lib.Dec.{eqb, leb}
 use lib.ListN.{length, take, drop, getD, length-drop, drop-of-length-le}
 use lib.Seq.{drop-cons, take-all}
 use Rattle.types.proofs.Booleans.{by}
-use Rattle.numerals.specs.Numerals.{isDigit, further, digitsOn, numberOf, within, upTo, withDigit}
+use Rattle.numerals.specs.Numerals.{isDigit, further, digitsOn, numeral, bounded, numeralUpTo, withDigit}
 use Rattle.numerals.specs.declared.Number.{Number}
 use Rattle.numerals.specs.declared.Number.the-variants as N
 
@@ -32,14 +32,14 @@ module _ (limit n b : ℕ) where
 
 -- ── digit by digit ──
 
-past-stays : (limit n : ℕ) (bs : List ℕ) → limit < n → within limit (digitsOn n bs) ≡ N.Other
+past-stays : (limit n : ℕ) (bs : List ℕ) → limit < n → bounded limit (digitsOn n bs) ≡ N.Other
 unfolding digitsOn
 past-stays limit n [] h = rw (lt-leb n limit h)
 past-stays limit n (b ∷ bs) h =
     by (isDigit b) (λ t. rw t (past-stays limit (further n b) bs (omega arith))) (λ t. rw t)
 
 -- a digit read: the rest is read on from there
-read-on : (limit n m b : ℕ) (bs : List ℕ) → withDigit limit n b ≡ N.Is m → within limit (digitsOn n (b ∷ bs)) ≡ within limit (digitsOn m bs)
+read-on : (limit n m b : ℕ) (bs : List ℕ) → withDigit limit n b ≡ N.Is m → bounded limit (digitsOn n (b ∷ bs)) ≡ bounded limit (digitsOn m bs)
 unfolding digitsOn
 read-on limit n m b bs e =
     by (isDigit b)
@@ -55,7 +55,7 @@ read-on limit n m b bs e =
     never : {y : ℕ} → N.Other ≡ N.Is y → ⊥
     never p = let z : _≡_ {A = ℕ} 0 1 = cc in omega arith
 
-read-stop : (limit n b : ℕ) (bs : List ℕ) → withDigit limit n b ≡ N.Other → within limit (digitsOn n (b ∷ bs)) ≡ N.Other
+read-stop : (limit n b : ℕ) (bs : List ℕ) → withDigit limit n b ≡ N.Other → bounded limit (digitsOn n (b ∷ bs)) ≡ N.Other
 unfolding digitsOn
 read-stop limit n b bs e =
     by (isDigit b)
@@ -69,31 +69,31 @@ read-stop limit n b bs e =
     never p = let z : _≡_ {A = ℕ} 0 1 = cc in omega arith
 
 -- no byte is no number
-pub none-there : (limit : ℕ) (w : List ℕ) → length w ≡ 0 → N.Other ≡ upTo limit w
+pub none-there : (limit : ℕ) (w : List ℕ) → length w ≡ 0 → N.Other ≡ numeralUpTo limit w
 none-there limit [] h = refl
 none-there limit (b ∷ bs) h = absurd (omega arith)
 
 -- ── the loop: what is left to read gives what the whole gives ──
 
 module _ (limit : ℕ) (w : List ℕ) where
-  pub all-left : 0 < length w → upTo limit w ≡ within limit (digitsOn 0 (drop 0 w))
+  pub all-left : 0 < length w → numeralUpTo limit w ≡ bounded limit (digitsOn 0 (drop 0 w))
   all-left h = go w h
     where
-      go : (x : List ℕ) → 0 < length x → upTo limit x ≡ within limit (digitsOn 0 x)
+      go : (x : List ℕ) → 0 < length x → numeralUpTo limit x ≡ bounded limit (digitsOn 0 x)
       go [] l = absurd (omega arith)
       go (b ∷ bs) l = refl
 
-  module _ (n i : ℕ) (h : i < length w) (e : upTo limit w ≡ within limit (digitsOn n (drop i w))) where
-    there : upTo limit w ≡ within limit (digitsOn n (getD w i 0 ∷ drop (i + 1) w))
+  module _ (n i : ℕ) (h : i < length w) (e : numeralUpTo limit w ≡ bounded limit (digitsOn n (drop i w))) where
+    there : numeralUpTo limit w ≡ bounded limit (digitsOn n (getD w i 0 ∷ drop (i + 1) w))
     there = e ∙ rw (add-one i, drop-cons w i 0 h)
 
-    pub one-read : (m : ℕ) → withDigit limit n (getD w i 0) ≡ N.Is m → upTo limit w ≡ within limit (digitsOn m (drop (i + 1) w))
+    pub one-read : (m : ℕ) → withDigit limit n (getD w i 0) ≡ N.Is m → numeralUpTo limit w ≡ bounded limit (digitsOn m (drop (i + 1) w))
     one-read m f = there ∙ read-on limit n m (getD w i 0) (drop (i + 1) w) f
 
-    pub none-read : withDigit limit n (getD w i 0) ≡ N.Other → N.Other ≡ upTo limit w
+    pub none-read : withDigit limit n (getD w i 0) ≡ N.Other → N.Other ≡ numeralUpTo limit w
     none-read f = sym (there ∙ read-stop limit n (getD w i 0) (drop (i + 1) w) f)
 
-  pub all-read : (n i : ℕ) → length w ≤ i → n ≤ limit → upTo limit w ≡ within limit (digitsOn n (drop i w)) → N.Is n ≡ upTo limit w
+  pub all-read : (n i : ℕ) → length w ≤ i → n ≤ limit → numeralUpTo limit w ≡ bounded limit (digitsOn n (drop i w)) → N.Is n ≡ numeralUpTo limit w
   unfolding digitsOn
   all-read n i h l e = sym (e ∙ rw (drop-of-length-le w h, le-leb n limit l))
 

@@ -3,19 +3,19 @@ use mathlib.Core.Path.{_≡_, refl}
 use mathlib.Core.List.{[], _∷_}
 use lib.IntN.{pos, negℤ}
 use Rattle.amount.specs.Whole.{amount}
-use Rattle.numerals.specs.Numerals.{digitsOn, upTo, signedOf}
+use Rattle.numerals.specs.Numerals.{digitsOn, numeralUpTo, signedOf}
 use Rattle.numerals.specs.declared.Number.the-variants as N
 use Rattle.numerals.specs.declared.Signed.the-variants as S
 
 -- up to 255: `0`, `0065`, `255`, `256`, no byte, `-1`, `1a`
 small :
-    (upTo 255 (48 ∷ []) ≡ N.Is 0)
-    × (upTo 255 (48 ∷ 48 ∷ 54 ∷ 53 ∷ []) ≡ N.Is 65)
-    × (upTo 255 (50 ∷ 53 ∷ 53 ∷ []) ≡ N.Is 255)
-    × (upTo 255 (50 ∷ 53 ∷ 54 ∷ []) ≡ N.Other)
-    × (upTo 255 ([]) ≡ N.Other)
-    × (upTo 255 (45 ∷ 49 ∷ []) ≡ N.Other)
-    × (upTo 255 (49 ∷ 97 ∷ []) ≡ N.Other)
+    (numeralUpTo 255 (48 ∷ []) ≡ N.Is 0)
+    × (numeralUpTo 255 (48 ∷ 48 ∷ 54 ∷ 53 ∷ []) ≡ N.Is 65)
+    × (numeralUpTo 255 (50 ∷ 53 ∷ 53 ∷ []) ≡ N.Is 255)
+    × (numeralUpTo 255 (50 ∷ 53 ∷ 54 ∷ []) ≡ N.Other)
+    × (numeralUpTo 255 ([]) ≡ N.Other)
+    × (numeralUpTo 255 (45 ∷ 49 ∷ []) ≡ N.Other)
+    × (numeralUpTo 255 (49 ∷ 97 ∷ []) ≡ N.Other)
 unfolding digitsOn
 small = (refl, refl, refl, refl, refl, refl, refl)
 

@@ -26,22 +26,22 @@ digitsOn n [] = some n
 digitsOn n (b ∷ bs) = cond (isDigit b) (digitsOn (further n b) bs) none
 
 -- the number of a word: one digit at least
-abbrev pub numberOf : List ℕ → Option ℕ
-numberOf [] = none
-numberOf (b ∷ bs) = digitsOn 0 (b ∷ bs)
+abbrev pub numeral : List ℕ → Option ℕ
+numeral [] = none
+numeral (b ∷ bs) = digitsOn 0 (b ∷ bs)
 
 -- a number within its limit
-abbrev pub within : ℕ → Option ℕ → Number
-within limit none = N.Other
-within limit (some n) = cond (leb n limit) (N.Is n) N.Other
+abbrev pub bounded : ℕ → Option ℕ → Number
+bounded limit none = N.Other
+bounded limit (some n) = cond (leb n limit) (N.Is n) N.Other
 
 -- a word as a number up to a limit
-abbrev pub upTo : ℕ → List ℕ → Number
-upTo limit w = within limit (numberOf w)
+abbrev pub numeralUpTo : ℕ → List ℕ → Number
+numeralUpTo limit w = bounded limit (numeral w)
 
 -- a number with one more digit, within its limit
 abbrev pub withDigit : ℕ → ℕ → ℕ → Number
-withDigit limit n b = cond (isDigit b) (within limit (some (further n b))) N.Other
+withDigit limit n b = cond (isDigit b) (bounded limit (some (further n b))) N.Other
 
 -- a size as a number from zero up
 abbrev pub above : Number → Signed
@@ -55,4 +55,4 @@ below N.Other = S.Other
 
 -- a word as a signed number of 64 bits, a minus sign before its digits or none
 abbrev pub signedOf : List ℕ → Signed
-signedOf w = cond (eqb (getD w 0 0) 45) (below (upTo 9223372036854775808 (drop 1 w))) (above (upTo 9223372036854775807 w))
+signedOf w = cond (eqb (getD w 0 0) 45) (below (numeralUpTo 9223372036854775808 (drop 1 w))) (above (numeralUpTo 9223372036854775807 w))

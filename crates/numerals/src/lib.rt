@@ -4,7 +4,7 @@ ghost use mathlib.Core.Path.{_≡_};
 ghost use Prim.Native.Nat.{_≤_};
 ghost use lib.IntN.{pos, negℤ};
 ghost use Rattle.amount.specs.Whole.{amount};
-ghost use Rattle.numerals.specs.Numerals.{upTo, withDigit, above, below, signedOf};
+ghost use Rattle.numerals.specs.Numerals.{numeralUpTo, withDigit, above, below, signedOf};
 ghost use Rattle.numerals.specs.Inner.Sizes.{sizeOf};
 use amount::Amount;
 
@@ -42,7 +42,7 @@ fn with_digit(n: u64, byte: u8, limit: u64) -> Number
 
 pub fn read_number(word: &[u8], limit: u64) -> Number
     requires { ⌜ 9 ≤ limit ⌝ }
-    ensures { λ r. ⌜ (r ≡ upTo limit (now (word .entry))) × (sizeOf r ≤ limit) ⌝ }
+    ensures { λ r. ⌜ (r ≡ numeralUpTo limit (now (word .entry))) × (sizeOf r ≤ limit) ⌝ }
 {
     if word.len() == 0 {
         return Number::Other;

@@ -5,13 +5,13 @@ use borrow.Author.Needs.{needs}
 use Rattle.types.specs.InOrder.{Run}
 use Rattle.position.specs.Ledger.{Change}
 use Rattle.position.specs.declared.PositionLedger.{PositionLedger}
-use Rattle.day.specs.Inner.Walk.{counted, nextOf}
+use Rattle.day.specs.Inner.Walk.{oneIfTaken, nextOf}
 use Rattle.day.proofs.book_next.Statement.{statement}
 use Rattle.day.proofs.book_next.Tie as tie
 
 -- the day after a fill that made this change, of so many before it
 abbrev after : ℕ → Change → Run PositionLedger
-after n x = record { stands = x .ledger; taken = (n + counted (x .reply)) % 2 ^ 64; reply = x .reply }
+after n x = record { stands = x .ledger; taken = (n + oneIfTaken (x .reply)) % 2 ^ 64; reply = x .reply }
 
 pub book-next-spec : {M : Type 1} → statement M
 unfolding nextOf

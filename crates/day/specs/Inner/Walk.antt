@@ -6,21 +6,21 @@ use Rattle.types.specs.InOrder.{Run, ended, ifDone}
 use Rattle.holding.specs.declared.Fill.{Fill}
 use Rattle.position.specs.declared.PositionLedger.{PositionLedger}
 use Rattle.position.specs.Ledger.{isLedger}
-use Rattle.day.specs.Day.{ledgerAfter, replyTo}
+use Rattle.day.specs.Day.{ledgerAfter, replyAfter}
 
 -- a day without a fill yet
 abbrev pub begun : PositionLedger → Run PositionLedger
 begun l = ended l (ifRecord (isLedger l) (done tt))
 
 -- 1 for a fill that was taken, 0 for another
-abbrev pub counted : Reply (Unit {0}) → ℕ
-counted reply = ifDone reply 1 0
+abbrev pub oneIfTaken : Reply (Unit {0}) → ℕ
+oneIfTaken reply = ifDone reply 1 0
 
 -- one fill more; a u64 counts them
 unfoldable pub nextOf : Run PositionLedger → Fill → Run PositionLedger
 nextOf day f =
     ifDone (day .reply)
-    (record { stands = ledgerAfter (day .stands) f; taken = (day .taken + counted (replyTo (day .stands) f)) % 2 ^ 64; reply = replyTo (day .stands) f })
+    (record { stands = ledgerAfter (day .stands) f; taken = (day .taken + oneIfTaken (replyAfter (day .stands) f)) % 2 ^ 64; reply = replyAfter (day .stands) f })
     day
 
 -- all of them, in order

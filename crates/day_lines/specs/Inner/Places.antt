@@ -4,7 +4,7 @@ use mathlib.Core.Bool.{false}
 use mathlib.Core.List.{List, [], _∷_, _++_}
 use mathlib.Core.Path.{_≡_}
 use lib.ListN.{length, getD, take, drop}
-use Rattle.day_lines.specs.Words.{isBlank, full, words}
+use Rattle.day_lines.specs.Words.{isBlank, notEmpty, words}
 
 -- no blank stands at this place, or it is the text's end
 pub record Starts (s : List ℕ) (at : ℕ) : Type 0 where
@@ -16,7 +16,7 @@ pub record Ends (s : List ℕ) (at end : ℕ) : Type 0 where
   pub after : at ≤ end
   pub within : end ≤ length s
   pub passed : at < length s → at < end
-  pub cut : words (drop at s) ≡ full (take (end - at) (drop at s) ∷ []) ++ words (drop end s)
+  pub cut : words (drop at s) ≡ notEmpty (take (end - at) (drop at s) ∷ []) ++ words (drop end s)
 
 -- the place behind a place: past it, unless that is the text's end, and all words but the first follow
 pub record Next (s : List ℕ) (at next : ℕ) : Type 0 where

@@ -4,13 +4,13 @@ use mathlib.Core.Path.{_≡_, refl, sym, _∙_}
 use native.Mathlib.Omega.{arith}
 use borrow.Author.Needs.{needs}
 use lib.ListN.{length, drop}
-use Rattle.numerals.specs.Numerals.{digitsOn, within, upTo}
+use Rattle.numerals.specs.Numerals.{digitsOn, bounded, numeralUpTo}
 use Rattle.numerals.proofs.Digits.{none-there, all-left, one-read, none-read, all-read}
 use Rattle.numerals.proofs.read_number.Statement.{statement}
 use Rattle.numerals.proofs.read_number.Tie as tie
 
 abbrev Inv-loop : tie.InvT-loop
-Inv-loop word limit n₀ i₀ n i = (i ≤ length word) × (n ≤ limit) × (upTo limit word ≡ within limit (digitsOn n (drop i word)))
+Inv-loop word limit n₀ i₀ n i = (i ≤ length word) × (n ≤ limit) × (numeralUpTo limit word ≡ bounded limit (digitsOn n (drop i word)))
 
 abbrev μ-loop : tie.MeasureT-loop
 μ-loop word limit n₀ i₀ n i = length word - i
