@@ -2,5 +2,6 @@ pub mod Numbers
 pub mod Steps
 pub mod Walk
 pub mod Calls
+pub mod Standing
 pub mod Meaning
 pub mod Once
