@@ -1,5 +1,6 @@
 -- One fill of a day: what is left of the day after one that was taken, and the day's end at one that was not.
 use Prim.Native.Nat.{ℕ, _+_}
+use mathlib.Core.Bool.{true}
 use mathlib.Core.Path.{_≡_, sym, ap, _∙_}
 use mathlib.Core.List.{List, [], _∷_}
 use native.Mathlib.Nat.{add-zero, add-suc, suc-add}
@@ -9,7 +10,7 @@ use Rattle.types.specs.Replies.{Reply, done, refused}
 use Rattle.types.specs.InOrder.{Run, ended, oneMore, counting, inOrder}
 use Rattle.holding.specs.declared.Fill.{Fill}
 use Rattle.position.specs.declared.PositionLedger.{PositionLedger}
-use Rattle.position.specs.Ledger.{Change, booked}
+use Rattle.position.specs.Ledger.{Change, isLedger, booked}
 use Rattle.position.proofs.Kept.{fill-keeps}
 use Rattle.day.specs.Day.{bookedInOrder}
 
@@ -25,6 +26,10 @@ counting-ended n l a = rw (add-zero n)
 pub is-over : (l : PositionLedger) (n : ℕ) (day : Run PositionLedger) → counting n (bookedInOrder l []) ≡ day → record { stands = l; taken = n; reply = done tt } ≡ day
 unfolding inOrder
 is-over l n day e = sym (counting-ended n l (done tt)) ∙ e
+
+-- what a fill that is taken leaves is a ledger
+pub leaves-ledger : (l : PositionLedger) (f : Fill) (c : Change) → c ≡ booked l f → c .reply ≡ done tt → isLedger (c .ledger) ≡ true
+leaves-ledger l f c h d = rw h (fill-keeps l f .ledger (ap (λ (x : Change). x .reply) (sym h) ∙ d))
 
 module _ (l : PositionLedger) (f : Fill) (fs : List Fill) (n : ℕ) (day : Run PositionLedger) (e : counting n (bookedInOrder l (f ∷ fs)) ≡ day) (c : Change) (h : c ≡ booked l f) where
   -- a fill that is taken is counted, and the others follow from the ledger that it leaves

@@ -2,12 +2,14 @@
 // an Ask), quantity, price, commission. A slice of records cannot be lent without a proof by hand, and numbers of 64 bits let a caller that is not
 // Rattle hand over what is too large for a field, and have it refused.
 ghost use mathlib.Core.Path.{_≡_};
+ghost use mathlib.Core.Bool.{true};
 ghost use Prim.Native.Nat.{_+_, _≤_, _<_, _%_};
 ghost use lib.IntN.{pos};
 ghost use lib.ListN.{length, getD, drop};
 ghost use Rattle.amount.specs.Whole.{amount};
 ghost use Rattle.types.specs.Answers.{replyOfOutcome};
-ghost use Rattle.position.specs.Lent.{lentLedger, leftLedger};
+ghost use Rattle.position.specs.Ledger.{isLedger};
+ghost use Rattle.position.specs.Lent.{ledgerAt, lentLedger, leftLedger};
 ghost use Rattle.day.specs.Day.{bookedInOrder};
 ghost use Rattle.day.specs.Numbers.{isUpTo, makeFill, fillBy, firstFill, fillsBy, dayBookedBy};
 use crate::RowsDay;
@@ -88,7 +90,7 @@ fn fill_at(numbers: &[i64], at: usize) -> Fill
     fill_by(symbol, side, quantity, price, commission)
 }
 
-// The fills in order, until one is refused.
+// The fills in order, until one is refused, to rows that make a ledger: what each leaves makes one again.
 fn book_all(
     quantities: &mut [i64; 32],
     averages: &mut [u32; 32],
@@ -96,7 +98,7 @@ fn book_all(
     totals: Totals,
     numbers: &[i64],
 ) -> RowsDay
-    requires { ⌜ length (now numbers) % 5 ≡ 0 ⌝ }
+    requires { ⌜ (isLedger (ledgerAt (now quantities) (now averages) (now realized) totals) ≡ true) × (length (now numbers) % 5 ≡ 0) ⌝ }
     ensures { λ r. ⌜ record { stands = leftLedger quantities averages realized (r .totals); taken = r .taken; reply = replyOfOutcome (r .outcome) } ≡ bookedInOrder (lentLedger quantities averages realized totals) (fillsBy (now (numbers .entry))) ⌝ }
 {
     let mut standing = totals;
@@ -105,7 +107,7 @@ fn book_all(
     while left > 0 {
         let at = numbers.len() - left;
         let fill = fill_at(numbers, at);
-        let done = rows::apply_fill(quantities, averages, realized, standing, fill);
+        let done = rows::apply_to_ledger(quantities, averages, realized, standing, fill);
         let outcome = done.outcome;
         standing = done.totals;
         let Outcome::Done = outcome else {

@@ -103,6 +103,26 @@ fn settle(
     }
 }
 
+// A fill to rows that are known to make a ledger.
+pub fn apply_to_ledger(
+    quantities: &mut [i64; 32],
+    averages: &mut [u32; 32],
+    realized: &mut [i64; 32],
+    totals: Totals,
+    fill: Fill,
+) -> RowsBooked
+    requires { ⌜ isLedger (ledgerAt (now quantities) (now averages) (now realized) totals) ≡ true ⌝ }
+    ensures { λ r. ⌜ record { ledger = leftLedger quantities averages realized (r .totals); reply = replyOfOutcome (r .outcome) } ≡ booked (lentLedger quantities averages realized totals) fill ⌝ }
+{
+    if fill.is_fill() {
+        return settle(quantities, averages, realized, totals, fill);
+    }
+    RowsBooked {
+        totals,
+        outcome: Outcome::Refused(Refusal::OutOfLimits),
+    }
+}
+
 // Takes a fill: cash, commission paid, and the symbol's position. A refusal leaves the rows and the totals as they were.
 pub fn apply_fill(
     quantities: &mut [i64; 32],
@@ -114,13 +134,7 @@ pub fn apply_fill(
     ensures { λ r. ⌜ record { ledger = leftLedger quantities averages realized (r .totals); reply = replyOfOutcome (r .outcome) } ≡ booked (lentLedger quantities averages realized totals) fill ⌝ }
 {
     if is_ledger(quantities, averages, realized, totals) {
-        if fill.is_fill() {
-            return settle(quantities, averages, realized, totals, fill);
-        }
-        return RowsBooked {
-            totals,
-            outcome: Outcome::Refused(Refusal::OutOfLimits),
-        };
+        return apply_to_ledger(quantities, averages, realized, totals, fill);
     }
     RowsBooked {
         totals,

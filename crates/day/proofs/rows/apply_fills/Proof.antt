@@ -24,7 +24,7 @@ apply-fills-spec =
     tie.close
     (tie.spec
     (λ c κs. search needs)
-    (λ c κs. search needs)
+    (λ c κs. let t = c .before .before .before in (good (t .before), t .if2 .taken))
     (λ c. let t = c .before .before .before .before in rw (good (t .before), eq-eqb _ _ (t .if2 .taken)) (c .book-all .ensures))
     (λ c. rw (good (c .before), ne-eqb _ _ (c .if2 .left)))
     (λ c. rw (← c .before .is-ledger .ensures, c .if1 .left)))

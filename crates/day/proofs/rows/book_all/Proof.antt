@@ -1,5 +1,6 @@
--- `rows::book_all`: what was taken so far, counted, with what is left comes to what all of them come to.
+-- `rows::book_all`: what was taken so far, counted, with what is left comes to what all of them come to; and what stands is a ledger.
 use Prim.Native.Nat.{_+_, _-_, _%_, _≤_}
+use mathlib.Core.Bool.{true}
 use mathlib.Core.Path.{_≡_, ap, _∙_}
 use mathlib.Core.List.{_∷_}
 use native.Mathlib.Nat.{sub-self}
@@ -10,18 +11,18 @@ use Rattle.types.specs.Replies.{numberOf, valuesOf}
 use Rattle.types.specs.Answers.{replyOfOutcome}
 use Rattle.types.specs.InOrder.{counting}
 use Rattle.types.proofs.InOrders.{counting-none}
-use Rattle.position.specs.Ledger.{Change, booked}
+use Rattle.position.specs.Ledger.{Change, isLedger, booked}
 use Rattle.position.specs.Lent.{ledgerAt}
 use Rattle.day.specs.Day.{bookedInOrder}
 use Rattle.day.specs.Numbers.{firstFill, fillsBy}
 use Rattle.day.proofs.Numbers.{fills-at, fills-over}
-use Rattle.day.proofs.Steps.{goes-on, stops, is-over}
+use Rattle.day.proofs.Steps.{goes-on, stops, is-over, leaves-ledger}
 use Rattle.day.proofs.rows.book_all.Statement.{statement}
 use Rattle.day.proofs.rows.book_all.Tie as tie
 
 abbrev Inv-loop : tie.InvT-loop
 Inv-loop quantities₀ averages₀ realized₀ numbers standing₀ taken₀ left₀ quantities averages realized standing taken left =
-    (left ≤ length numbers) × (left % 5 ≡ 0) × (taken + left ≤ length numbers) ×
+    (left ≤ length numbers) × (left % 5 ≡ 0) × (taken + left ≤ length numbers) × (isLedger (ledgerAt quantities averages realized standing) ≡ true) ×
     (counting taken (bookedInOrder (ledgerAt quantities averages realized standing) (fillsBy (drop (length numbers - left) numbers))) ≡
     bookedInOrder (ledgerAt quantities₀ averages₀ realized₀ standing₀) (fillsBy numbers))
 
@@ -30,7 +31,7 @@ abbrev μ-loop : tie.MeasureT-loop
 
 -- at a turn, what is left begins with the fill at this place
 turn :
-    (c : tie.After-apply-fill Inv-loop μ-loop) →
+    (c : tie.After-apply-to-ledger Inv-loop μ-loop) →
     let l = c .before .before .before .before .before .before in
     let x = l .before .args in
     let at = length (x .numbers .now) - l .loop .left in
@@ -40,16 +41,16 @@ turn c =
     let l = c .before .before .before .before .before .before in
     let ns = l .before .args .numbers .now in
     let h : (length ns - l .loop .left) + 5 ≤ length ns = omega arith in
-    rw (← fills-at ns (length ns - l .loop .left) h) (l .loop .inv .3)
+    rw (← fills-at ns (length ns - l .loop .left) h) (l .loop .inv .4)
 
 -- and that fill is what was booked
 offered :
-    (c : tie.After-apply-fill Inv-loop μ-loop) →
+    (c : tie.After-apply-to-ledger Inv-loop μ-loop) →
     let l = c .before .before .before .before .before .before in
     let ns = l .before .args .numbers .now in
-    _≡_ {A = Change} (record { ledger = ledgerAt (c .apply-fill .last .0) (c .apply-fill .last .1 .0) (c .apply-fill .last .1 .1 .0) (c .apply-fill .result .totals); reply = replyOfOutcome (c .apply-fill .result .outcome) })
+    _≡_ {A = Change} (record { ledger = ledgerAt (c .apply-to-ledger .last .0) (c .apply-to-ledger .last .1 .0) (c .apply-to-ledger .last .1 .1 .0) (c .apply-to-ledger .result .totals); reply = replyOfOutcome (c .apply-to-ledger .result .outcome) })
     (booked (ledgerAt (l .loop .quantities) (l .loop .averages) (l .loop .realized) (l .loop .standing)) (firstFill (drop (length ns - l .loop .left) ns)))
-offered c = c .apply-fill .ensures ∙ rw (c .before .before .before .before .fill-at .ensures)
+offered c = c .apply-to-ledger .ensures ∙ rw (c .before .before .before .before .fill-at .ensures)
 
 loop-again : tie.Need-loop-again Inv-loop μ-loop
 loop-again c =
@@ -57,7 +58,8 @@ loop-again c =
     let l = t .before .before .before .before .before .before in
     let n = length (l .before .args .numbers .now) in
     let e : n - (l .loop .left - 5) ≡ (n - l .loop .left) + 5 = omega arith in
-    (omega arith, omega arith, omega arith, rw e (goes-on _ _ _ _ _ (turn t) _ (offered t) (ap replyOfOutcome (c .enum-told .given .1))))
+    let taken = ap replyOfOutcome (c .enum-told .given .1) in
+    (omega arith, omega arith, omega arith, leaves-ledger _ _ _ (offered t) taken, rw e (goes-on _ _ _ _ _ (turn t) _ (offered t) taken))
 
 returns : tie.Need-returns Inv-loop μ-loop
 returns c =
@@ -70,7 +72,7 @@ returns-2 c =
     let l = c .before in
     let ns = l .before .args .numbers .now in
     let e : length ns - l .loop .left ≡ length ns = omega arith in
-    is-over _ _ _ (rw (e, fills-over) at (l .loop .inv .3))
+    is-over _ _ _ (rw (e, fills-over) at (l .loop .inv .4))
 
 pub book-all-spec : {M : Type 1} → statement M
 book-all-spec =
@@ -78,10 +80,10 @@ book-all-spec =
     (tie.spec
     Inv-loop
     μ-loop
-    (λ c. (omega arith, c .pre, omega arith, rw (sub-self (length (c .args .numbers .now))) (counting-none _)))
+    (λ c. (omega arith, c .pre .1, omega arith, c .pre .0, rw (sub-self (length (c .args .numbers .now))) (counting-none _)))
     (λ c. omega arith)
     (λ c κs. omega arith)
-    (λ c κs. search needs)
+    (λ c κs. c .before .before .before .before .before .loop .inv .3)
     (λ c. search needs)
     (λ c. search needs)
     returns
