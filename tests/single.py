@@ -14,6 +14,7 @@ EXCEPTIONS = {
     "day::apply_fills": "specs/Days writes its promise out",
     "rows::row_of": "inner: hands a row on",
     "rows::apply_to_book": "inner: asks that the rows are known to make a book",
+    "rows::apply_to_ledger": "inner: asks that the rows are known to make a ledger",
     "feeding::take": "docs/PROMISES.md, Exceptions",
 }
 

@@ -1,1 +1,3 @@
 pub mod Days
+pub mod Inner
+pub mod Examples

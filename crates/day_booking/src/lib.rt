@@ -1,18 +1,22 @@
 // What the day programs do: read a day, from the file that the first argument names or else from standard input (`day_collecting`), book its fills
-// in one call, and write what is printed of it. All is read before anything is booked, and after a failure nothing is printed. What is printed of
-// an opening cash and the numbers of fills is promised here (specs/Days.antt); no contract can say what is read or written, and so the rest is
+// in one call, and write what is printed of it. All is read before anything is booked, and after a failure nothing is printed. That what is put is
+// what is printed of the text that was taken (specs/Days.antt) is promised here; no contract can say what is read or written, and so the rest is
 // proved safe and ending, and run.
 ghost use mathlib.Core.Path.{_≡_};
-ghost use Prim.Native.Nat.{_≤_};
-ghost use lib.ListN.{length};
+ghost use mathlib.Core.Bool.{true};
+ghost use mathlib.Core.List.{List};
+ghost use Prim.Native.Nat.{ℕ, _≤_};
+ghost use lib.ListN.{length, getD};
 ghost use Rattle.decimals.specs.Decimals.{Puts};
-ghost use Rattle.day_collecting.specs.Collecting.{Within};
-ghost use Rattle.day_booking.specs.Days.{lineBehind, bookedText, openedText};
+ghost use Rattle.day.specs.Numbers.{dayBookedBy};
+ghost use Rattle.day_keeping.specs.Keeping.{kept};
+ghost use Rattle.day_collecting.specs.Collecting.{Within, KeptOf};
+ghost use Rattle.day_booking.specs.Days.{runText};
+ghost use Rattle.day_booking.specs.Inner.Opened.{openedText, PutsKept};
 use amount::Amount;
 use day::rows::apply_fills;
 use day_collecting::collect;
 use day_keeping::Collected;
-use day_keeping::FILLS;
 use day_printing::Ended;
 use day_printing::put_day;
 use day_printing::refusals::put_refused;
@@ -25,10 +29,11 @@ use types::Outcome;
 
 // The line of the fill behind those that were taken; 0 where there is no place for one.
 fn line_behind(lines: &[u64; 100000], taken: u64) -> u64
-    ensures { λ r. ⌜ r ≡ lineBehind (now (lines .entry)) taken ⌝ }
+    ensures { λ r. ⌜ r ≡ getD (now (lines .entry)) taken 0 ⌝ }
 {
-    if taken < FILLS as u64 {
-        return lines[taken as usize];
+    let all: &[u64] = lines;
+    if taken < all.len() as u64 {
+        return all[taken as usize];
     }
     0
 }
@@ -41,7 +46,7 @@ fn put_booked(
     out: &mut [u8],
 ) -> usize
     requires { ⌜ 4000 ≤ length (now out) ⌝ }
-    ensures { λ r. ⌜ Puts (bookedText ledger (now (numbers .entry)) (now (lines .entry))) 0 (now (out .entry)) (now (out .exit)) r ⌝ }
+    ensures { λ r. ⌜ Puts (runText (dayBookedBy ledger (now (numbers .entry))) (now (lines .entry))) 0 (now (out .entry)) (now (out .exit)) r ⌝ }
 {
     let mut quantities = ledger.quantities;
     let mut averages = ledger.averages;
@@ -96,15 +101,23 @@ fn write_out(out: &[u8], used: usize) {
     }
 }
 
+// The same of a day that is kept: what is printed of the text that it is kept of.
+fn put_kept(day: Collected, numbers: &[i64; 500000], lines: &[u64; 100000], out: &mut [u8]) -> usize
+    requires { ⌜ Within day × (day .good ≡ true) × (day .opened ≡ 0 → ⊥) × (4000 ≤ length (now out)) ⌝ }
+    ensures { λ r. ⌜ PutsKept (kept day (now (numbers .entry)) (now (lines .entry))) (now (out .entry)) (now (out .exit)) r ⌝ }
+{
+    let all: &[i64] = numbers;
+    let end = 5 * day.fills;
+    put_opened(day.cash, day.opened, &all[..end], lines, out)
+}
+
 // Books a day that was read, and writes what is printed of it.
 fn book(day: Collected, numbers: &[i64; 500000], lines: &[u64; 100000])
-    requires { ⌜ Within day ⌝ }
+    requires { ⌜ Within day × (day .good ≡ true) × (day .opened ≡ 0 → ⊥) × ((text : List ℕ) × KeptOf text (kept day (now numbers) (now lines))) ⌝ }
 {
     let mut space = io::buffer();
     let out: &mut [u8] = &mut space;
-    let all: &[i64] = numbers;
-    let end = 5 * day.fills;
-    let used = put_opened(day.cash, day.opened, &all[..end], lines, out);
+    let used = put_kept(day, numbers, lines, out);
     write_out(out, used);
 }
 

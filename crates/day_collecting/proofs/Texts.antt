@@ -1,15 +1,15 @@
 -- Laws of a text that is taken byte by byte, and of the lines that end in it.
 use Prim.Native.Nat.{ℕ, _+_, _≤_, _<_}
-use mathlib.Core.Bool.{Bool, true, false, cond}
+use mathlib.Core.Bool.{Bool, true, false, cond, true≢false}
 use mathlib.Core.Path.{_≡_, refl, sym, ap, _∙_}
-use mathlib.Core.List.{List, [], _∷_, _++_, append-assoc}
+use mathlib.Core.List.{List, [], _∷_, _++_, append-assoc, append-nil}
 use native.Mathlib.Omega.{arith}
 use native.Mathlib.Numerals.{add-one}
 use borrow.Author.Tests.{eq-eqb, ne-eqb, lt-ltb, le-ltb}
-use lib.ListN.{length, take, drop, getD, set, drop-of-length-le}
+use lib.ListN.{length, take, drop, getD, set, length-append, drop-of-length-le}
 use lib.Seq.{drop-cons, take-suc-set}
 use Rattle.day_keeping.specs.Keeping.{Kept, spoilt, with, lineEnded}
-use Rattle.day_collecting.specs.Collecting.{finished, lastEnded, oneHeld, textTaken, Goes}
+use Rattle.day_collecting.specs.Collecting.{finished, lastEnded, oneHeld, textTaken, Goes, Took}
 
 -- ── a byte ──
 
@@ -63,7 +63,7 @@ none-taken bytes i k h e rest = stopped k h (drop i bytes ++ rest) e ∙ sym (st
 -- ── the end ──
 
 module _ (k : Kept) (h : List ℕ) (m : k .day .more ≡ true) where
-  at-end : textTaken k h [] ≡ lastEnded h k
+  pub at-end : textTaken k h [] ≡ lastEnded h k
   unfolding textTaken
   at-end = ap (λ (t : Bool). cond t (lastEnded h k) k) m
 
@@ -76,3 +76,33 @@ module _ (k : Kept) (h : List ℕ) (m : k .day .more ≡ true) where
 
   pub no-last-line : h ≡ [] → with k (finished (k .day)) ≡ textTaken k h []
   no-last-line e = ap (λ (g : List ℕ). lastEnded g k) (sym e) ∙ sym at-end
+
+-- ── what was read ──
+
+-- none yet
+pub took-none : (k : Kept) (h : List ℕ) → k .day .more ≡ true → Took 0 k h k h
+took-none k h m = record { bytes = []; few = omega arith; goes = λ _ rest. refl; ends = λ e. absurd (both m e) }
+  where
+    both : {b : Bool} → b ≡ true → b ≡ false → ⊥
+    both e f = true≢false (sym e ∙ f)
+
+-- some bytes
+pub took-bytes : (most : ℕ) (k k′ : Kept) (h h′ bytes : List ℕ) → length bytes ≤ most → Goes k h bytes k′ h′ → Took most k h k′ h′
+took-bytes most k k′ h h′ bytes l g =
+    record { bytes = bytes; few = l; goes = λ _. g; ends = λ e. (rw (append-nil bytes) at (g [])) ∙ stopped k′ h′ [] e }
+
+-- the end
+pub took-end : (most : ℕ) (k k′ : Kept) (h h′ : List ℕ) → k′ .day .more ≡ false → k′ ≡ textTaken k h [] → Took most k h k′ h′
+took-end most k k′ h h′ f e = record { bytes = []; few = omega arith; goes = λ m. absurd (both m f); ends = λ _. sym e }
+  where
+    both : {b : Bool} → b ≡ true → b ≡ false → ⊥
+    both m g = true≢false (sym m ∙ g)
+
+-- some, and then others
+pub took-then : (m n : ℕ) (k l p : Kept) (h i j : List ℕ) → Took m k h l i → l .day .more ≡ true → Took n l i p j → Took (m + n) k h p j
+took-then m n k l p h i j a e b = record {
+  bytes = a .bytes ++ b .bytes;
+  few = simp length-append (omega (arith, a .few, b .few));
+  goes = λ f. goes-then k l p h i j (a .bytes) (b .bytes) (a .goes e) (b .goes f);
+  ends = λ f. a .goes e (b .bytes) ∙ b .ends f;
+}

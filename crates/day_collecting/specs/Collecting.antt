@@ -1,12 +1,14 @@
 -- What is kept of the text of a day, byte by byte.
-use Prim.Native.Nat.{ℕ, _+_, _≤_}
-use mathlib.Core.Bool.{false, cond}
+use Prim.Native.Nat.{ℕ, _+_, _≤_, _<_}
+use mathlib.Core.Bool.{true, false, cond}
 use mathlib.Core.Path.{_≡_}
 use mathlib.Core.List.{List, [], _∷_, _++_}
 use lib.Dec.{eqb, ltb}
+use lib.IntN.{ℤ, pos}
 use lib.ListN.{length, take}
+use Rattle.amount.specs.Whole.{amount}
 use Rattle.day_keeping.specs.declared.Collected.{Collected}
-use Rattle.day_keeping.specs.Keeping.{Kept, spoilt, with, lineEnded}
+use Rattle.day_keeping.specs.Keeping.{Kept, kept, spoilt, with, lineEnded}
 
 -- nothing more is read
 abbrev pub finished : Collected → Collected
@@ -37,6 +39,10 @@ Goes k held bytes k′ held′ = (rest : List ℕ) → textTaken k held (bytes +
 
 -- ── as the code holds it ──
 
+-- nothing is read yet
+abbrev pub unread : Collected
+unread = record { line = 1; held = 0; opened = 0; cash = amount (pos 0); fills = 0; more = true; good = true }
+
 -- the bytes of the line that are held
 abbrev pub heldIn : Collected → List ℕ → List ℕ
 heldIn d line = take (d .held) line
@@ -45,3 +51,18 @@ heldIn d line = take (d .held) line
 pub record Within (d : Collected) : Type 0 where
   pub held : d .held ≤ 4096
   pub fills : d .fills ≤ 100000
+
+-- so many bytes at most were taken, and where nothing more is read the text ends with them
+pub record Took (most : ℕ) (k : Kept) (held : List ℕ) (k′ : Kept) (held′ : List ℕ) : Type 0 where
+  pub bytes : List ℕ
+  pub few : length bytes ≤ most
+  pub goes : k′ .day .more ≡ true → Goes k held bytes k′ held′
+  pub ends : k′ .day .more ≡ false → textTaken k held bytes ≡ k′
+
+-- this is what is kept of a text, in memory that has room for 100,000 fills; a u64 counts its lines
+pub record KeptOf (text : List ℕ) (k : Kept) : Type 0 where
+  pub numbers : List ℤ
+  pub lines : List ℕ
+  pub room : (length numbers ≡ 500000) × (length lines ≡ 100000)
+  pub counted : length text < 18446744073709551615
+  pub whole : textTaken (kept unread numbers lines) [] text ≡ k

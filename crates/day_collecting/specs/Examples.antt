@@ -2,10 +2,11 @@
 use Prim.Native.Nat.{ℕ}
 use mathlib.Core.Bool.{Bool, true, false}
 use mathlib.Core.Path.{_≡_, refl}
-use mathlib.Core.List.{List, [], _∷_}
+use mathlib.Core.List.{List, []}
 use lib.IntN.{ℤ, pos}
 use lib.ListN.{replicate}
 use Rattle.amount.specs.Whole.{amount}
+use Rattle.types.specs.Quoted.{bytes}
 use Rattle.numerals.specs.Numerals.{digitsOn}
 use Rattle.day_lines.specs.Words.{spoken, parts, notEmpty}
 use Rattle.day_lines.specs.Lines.{saidBy}
@@ -25,11 +26,11 @@ abbrev start : Kept
 start = at 1 0 (pos 0) 0 true true (replicate 10 (pos 0)) (replicate 2 0)
 
 -- an empty line, then `cash 5` without its line feed: the cash of line 2
-last : textTaken start [] (10 ∷ 99 ∷ 97 ∷ 115 ∷ 104 ∷ 32 ∷ 53 ∷ []) ≡ at 3 2 (pos 5) 0 false true (replicate 10 (pos 0)) (replicate 2 0)
+last : textTaken start [] (bytes "\ncash 5") ≡ at 3 2 (pos 5) 0 false true (replicate 10 (pos 0)) (replicate 2 0)
 unfolding textTaken spoken parts notEmpty digitsOn saidBy
 last = refl
 
 -- `x`, then a line that is not read: nothing is kept
-spoilt : textTaken start [] (120 ∷ 10 ∷ 99 ∷ 97 ∷ 115 ∷ 104 ∷ 32 ∷ 53 ∷ []) ≡ at 2 0 (pos 0) 0 false false (replicate 10 (pos 0)) (replicate 2 0)
+spoilt : textTaken start [] (bytes "x\ncash 5") ≡ at 2 0 (pos 0) 0 false false (replicate 10 (pos 0)) (replicate 2 0)
 unfolding textTaken spoken parts notEmpty digitsOn saidBy
 spoilt = refl

@@ -1,6 +1,6 @@
 // The bytes of a text, one by one: a line feed ends the line that is held, and any other byte is held, while there is room for it.
 ghost use mathlib.Core.Path.{_≡_};
-ghost use mathlib.Core.Bool.{true};
+ghost use mathlib.Core.Bool.{true, false};
 ghost use mathlib.Core.List.{List, [], _∷_};
 ghost use Prim.Native.Nat.{ℕ};
 ghost use lib.IntN.{ℤ};
@@ -87,7 +87,7 @@ pub fn take_last(
     lines: &mut [u64; 100000],
 ) -> Collected
     requires { ⌜ Within day × (length (now line) ≡ 4096) ⌝ }
-    ensures { λ r. ⌜ Within r × (day .more ≡ true → kept r (now (numbers .exit)) (now (lines .exit)) ≡ textTaken (kept day (now (numbers .entry)) (now (lines .entry))) (heldIn day (now (line .entry))) []) ⌝ }
+    ensures { λ r. ⌜ Within r × (r .more ≡ false) × (day .more ≡ true → kept r (now (numbers .exit)) (now (lines .exit)) ≡ textTaken (kept day (now (numbers .entry)) (now (lines .entry))) (heldIn day (now (line .entry))) []) ⌝ }
 {
     let mut after = day;
     if day.held > 0 {

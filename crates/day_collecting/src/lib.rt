@@ -1,8 +1,12 @@
-// The text of a day, read a chunk at a time: each line is put together in a buffer of its own and read when it ends. What is kept of any bytes is
-// promised (bytes.rt); no contract can say which bytes are read.
+// The text of a day, read a chunk at a time: each line is put together in a buffer of its own and read when it ends. What is kept is promised to be
+// what is kept of a text, taken whole; no contract can say that the file has that text.
 ghost use mathlib.Core.Path.{_≡_};
+ghost use mathlib.Core.Bool.{true, _||_};
+ghost use mathlib.Core.List.{List};
+ghost use Prim.Native.Nat.{ℕ};
 ghost use lib.ListN.{length};
-ghost use Rattle.day_collecting.specs.Collecting.{Within};
+ghost use Rattle.day_keeping.specs.Keeping.{kept};
+ghost use Rattle.day_collecting.specs.Collecting.{heldIn, Within, Took, KeptOf};
 
 mod bytes; // bytes.rt: the bytes of a text, one by one
 
@@ -10,6 +14,10 @@ use amount::Amount;
 use bytes::take_bytes;
 use bytes::take_last;
 use day_keeping::Collected;
+use day_keeping::fault;
+
+// The most reads: a text of so many is not read to its end.
+const TURNS: u64 = 1_099_511_627_776;
 
 // Reads once and takes what came.
 fn take_some(
@@ -21,8 +29,8 @@ fn take_some(
     numbers: &mut [i64; 500000],
     lines: &mut [u64; 100000],
 ) -> Collected
-    requires { ⌜ Within day × (length (now line) ≡ 4096) ⌝ }
-    ensures { λ r. ⌜ Within r ⌝ }
+    requires { ⌜ Within day × (day .more ≡ true) × (length (now chunk) ≡ 65536) × (length (now line) ≡ 4096) ⌝ }
+    ensures { λ r. ⌜ Within r × ((r .more || r .good) ≡ true → Took 65536 (kept day (now (numbers .entry)) (now (lines .entry))) (heldIn day (now (line .entry))) (kept r (now (numbers .exit)) (now (lines .exit))) (heldIn r (now (line .exit)))) ⌝ }
 {
     let got = libc::read(fd, chunk);
     let n = io::count(got, chunk);
@@ -39,15 +47,18 @@ fn take_some(
     failed
 }
 
-// Reads until nothing more is to be read. No input is as many reads long as the turns counted down here.
+// Reads until nothing more is to be read.
 pub fn collect(
     fd: i32,
     name: &[u8],
     numbers: &mut [i64; 500000],
     lines: &mut [u64; 100000],
 ) -> Collected
-    ensures { λ r. ⌜ Within r ⌝ }
+    ensures { λ r. ⌜ Within r × (r .good ≡ true → (text : List ℕ) × KeptOf text (kept r (now (numbers .exit)) (now (lines .exit)))) ⌝ }
 {
+    // as slices, they are known to have room for 100,000 fills
+    let all: &[i64] = numbers;
+    let each: &[u64] = lines;
     let mut space = io::large_buffer();
     let mut room = io::buffer();
     let chunk: &mut [u8] = &mut space;
@@ -61,10 +72,13 @@ pub fn collect(
         more: true,
         good: true,
     };
-    let mut turns = u64::MAX;
+    let mut turns = TURNS;
     while turns > 0 && day.more {
         day = take_some(day, fd, name, chunk, line, numbers, lines);
         turns -= 1;
+    }
+    if day.more {
+        return fault(day, b"too long a day");
     }
     day
 }

@@ -1,5 +1,5 @@
 -- Laws of a line that was taken: no line keeps more fills than there is room for, and the next line begins behind it.
-use Prim.Native.Nat.{ℕ, _≤_, _<_}
+use Prim.Native.Nat.{ℕ, _≤_}
 use mathlib.Core.Path.{_≡_, ap}
 use mathlib.Core.List.{List}
 use native.Mathlib.Omega.{arith}

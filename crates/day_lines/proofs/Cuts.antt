@@ -1,5 +1,5 @@
 -- Laws of words: where a text is cut, and which words are left from a place on.
-use Prim.Native.Nat.{ℕ, zero, suc, _+_, _-_, _≤_, _<_}
+use Prim.Native.Nat.{ℕ, suc, _+_, _-_, _≤_, _<_}
 use mathlib.Core.Bool.{Bool, true, false}
 use mathlib.Core.Path.{_≡_, refl, sym, ap, _∙_}
 use mathlib.Core.List.{List, [], _∷_, _++_, append-assoc, append-nil}
@@ -8,7 +8,7 @@ use native.Mathlib.Numerals.{add-one}
 use borrow.Author.Tests.{eq-eqb, ne-eqb, eqb-true, eqb-false, ltb-true, ltb-false}
 use lib.Dec.{eqb, ltb}
 use lib.ListN.{length, take, drop, getD, length-drop, drop-of-length-le}
-use lib.Seq.{drop-cons, drop-drop, take-suc, take-all, length-take-le, getD-drop}
+use lib.Seq.{drop-cons, drop-drop, take-suc, length-take-le, getD-drop}
 use Rattle.types.proofs.Booleans.{by}
 use Rattle.day_lines.specs.Words.{spoken, isBlank, putBefore, parts, notEmpty, words, wordAt, alike}
 use Rattle.day_lines.specs.Inner.Places.{Starts, Ends, Next}

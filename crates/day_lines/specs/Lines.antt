@@ -3,6 +3,7 @@ use Prim.Native.Nat.{ℕ}
 use mathlib.Core.Bool.{cond}
 use mathlib.Core.List.{List, [], _∷_}
 use Rattle.amount.specs.declared.Amount.{Amount}
+use Rattle.types.specs.Quoted.{bytes}
 use Rattle.types.specs.declared.Side.{Side}
 use Rattle.types.specs.declared.Side.the-variants.{Bid, Ask}
 use Rattle.day_lines.specs.Words.{spoken, words, alike}
@@ -18,15 +19,15 @@ use Rattle.day_lines.specs.declared.Said.the-variants as L
 
 -- `cash`
 abbrev pub cash : List ℕ
-cash = 99 ∷ 97 ∷ 115 ∷ 104 ∷ []
+cash = bytes "cash"
 
 -- `bid`
 abbrev pub bid : List ℕ
-bid = 98 ∷ 105 ∷ 100 ∷ []
+bid = bytes "bid"
 
 -- `ask`
 abbrev pub ask : List ℕ
-ask = 97 ∷ 115 ∷ 107 ∷ []
+ask = bytes "ask"
 
 -- a word as a side
 abbrev pub sideWord : List ℕ → Sided

@@ -4,7 +4,7 @@ ghost use mathlib.Core.Path.{_≡_};
 ghost use Prim.Native.Nat.{_≤_};
 ghost use lib.ListN.{length, take};
 ghost use Rattle.day_lines.specs.Words.{spoken, wordAt, words as wordsOf};
-ghost use Rattle.numerals.specs.Numerals.{numeralUpTo, signedOf};
+ghost use Rattle.numerals.specs.Numerals.{numeralUpTo};
 ghost use Rattle.day_lines.specs.Lines.{sideWord, cashSaid, fillSaid, cashLine, fillLine, saidBy, said};
 ghost use Rattle.numerals.specs.Inner.Sizes.{sizeOf};
 

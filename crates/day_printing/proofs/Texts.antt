@@ -13,10 +13,10 @@ use lib.Signed.{ltZ}
 use Rattle.told.specs.declared.Whole.{Whole}
 use Rattle.told.specs.declared.Told.{Told}
 use Rattle.holding.specs.declared.Position.{Position}
-use Rattle.decimals.specs.Decimals.{decimal, signedDecimal, Puts}
+use Rattle.decimals.specs.Decimals.{decimal, Puts}
 use Rattle.decimals.proofs.Digits.{decimal-short, signed-short}
 use Rattle.decimals.proofs.Puts.{then, kept}
-use Rattle.day_printing.specs.Booked.{valueText, amountText, lineText, carriedText, valuesText, refusedWord, lineWord, placeText, refusalText, refusedText, isAllZero, positionText, heldText, positionsText, totalText}
+use Rattle.day_printing.specs.Booked.{valueText, amountText, lineText, carriedText, valuesText, lineWord, placeText, refusalText, refusedText, isAllZero, positionText, heldText, positionsText, totalText}
 
 -- no byte put
 pub none-put : (at : ℕ) (o : List ℕ) → Puts [] at o o at

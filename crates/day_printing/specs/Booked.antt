@@ -1,10 +1,11 @@
 -- What is printed of a booked day: how many fills were taken, the refusal if one was refused, cash, commission, and the positions.
 use Prim.Native.Nat.{ℕ, zero, suc}
 use mathlib.Core.Bool.{Bool, false, _&&_, cond}
-use mathlib.Core.List.{List, [], _∷_, _++_}
+use mathlib.Core.List.{List, [], _++_}
 use lib.Dec.{eqb, ltb}
 use lib.IntN.{ℤ, pos, natAbs}
 use lib.Signed.{ltZ}
+use Rattle.types.specs.Quoted.{bytes}
 use Rattle.told.specs.declared.Whole.{Whole}
 use Rattle.told.specs.declared.Told.{Told}
 use Rattle.holding.specs.declared.Position.{Position}
@@ -16,7 +17,7 @@ use Rattle.decimals.specs.Decimals.{decimal, signedDecimal}
 
 -- a space and a number, a minus sign before a negative one
 unfoldable pub valueText : Bool → ℕ → List ℕ
-valueText negative n = (32 ∷ []) ++ signedDecimal negative n
+valueText negative n = (bytes " ") ++ signedDecimal negative n
 
 -- the same of an amount
 abbrev pub amountText : ℤ → List ℕ
@@ -24,7 +25,7 @@ amountText z = valueText (ltZ z (pos 0)) (natAbs z)
 
 -- a word and a number as a line
 unfoldable pub lineText : List ℕ → Bool → ℕ → List ℕ
-lineText word negative n = word ++ (valueText negative n ++ (10 ∷ []))
+lineText word negative n = word ++ (valueText negative n ++ (bytes "\n"))
 
 -- ── the refusal ──
 
@@ -40,11 +41,11 @@ valuesText t =
 
 -- `refused`
 abbrev pub refusedWord : List ℕ
-refusedWord = 114 ∷ 101 ∷ 102 ∷ 117 ∷ 115 ∷ 101 ∷ 100 ∷ []
+refusedWord = bytes "refused"
 
 -- ` at line`
 abbrev pub lineWord : List ℕ
-lineWord = 32 ∷ 97 ∷ 116 ∷ 32 ∷ 108 ∷ 105 ∷ 110 ∷ 101 ∷ []
+lineWord = bytes " at line"
 
 -- `refused NUMBER at line L`
 unfoldable pub placeText : ℕ → ℕ → List ℕ
@@ -52,7 +53,7 @@ placeText number line = refusedWord ++ (valueText false number ++ (lineWord ++ v
 
 -- that with the values as a line
 unfoldable pub refusalText : Told → ℕ → List ℕ
-refusalText t line = placeText (t .number) line ++ (valuesText t ++ (10 ∷ []))
+refusalText t line = placeText (t .number) line ++ (valuesText t ++ (bytes "\n"))
 
 -- the refusal, if there is one: 0 is none
 unfoldable pub refusedText : Told → ℕ → List ℕ
@@ -68,7 +69,7 @@ isAllZero p = eqb (natAbs (p .quantity .value)) 0 && (eqb (p .average) 0 && eqb 
 unfoldable pub positionText : ℕ → Position → List ℕ
 positionText symbol p =
     decimal symbol
-    ++ (amountText (p .quantity .value) ++ (valueText false (p .average) ++ (amountText (p .realized .value) ++ (10 ∷ []))))
+    ++ (amountText (p .quantity .value) ++ (valueText false (p .average) ++ (amountText (p .realized .value) ++ (bytes "\n"))))
 
 -- that, unless all of it is 0
 unfoldable pub heldText : ℕ → Position → List ℕ
@@ -83,15 +84,15 @@ positionsText position (suc n) = positionsText position n ++ heldText n (positio
 
 -- `taken`
 abbrev pub takenWord : List ℕ
-takenWord = 116 ∷ 97 ∷ 107 ∷ 101 ∷ 110 ∷ []
+takenWord = bytes "taken"
 
 -- `cash`
 abbrev pub cashWord : List ℕ
-cashWord = 99 ∷ 97 ∷ 115 ∷ 104 ∷ []
+cashWord = bytes "cash"
 
 -- `commission`
 abbrev pub commissionWord : List ℕ
-commissionWord = 99 ∷ 111 ∷ 109 ∷ 109 ∷ 105 ∷ 115 ∷ 115 ∷ 105 ∷ 111 ∷ 110 ∷ []
+commissionWord = bytes "commission"
 
 -- a word and an amount as a line
 abbrev pub totalText : List ℕ → ℤ → List ℕ

@@ -1,10 +1,11 @@
 -- What is printed of the worked day, of a day that is refused, and of an opening cash that is refused.
 use Prim.Native.Nat.{ℕ}
 use mathlib.Core.Path.{_≡_, refl}
-use mathlib.Core.List.{List, [], _∷_, _++_}
+use mathlib.Core.List.{[], _∷_, _++_}
 use lib.IntN.{ℤ, pos, negℤ}
 use lib.ListN.{replicate}
 use Rattle.amount.specs.Whole.{amount}
+use Rattle.types.specs.Quoted.{bytes}
 use Rattle.told.specs.Numbers.{told}
 use Rattle.position.specs.declared.PositionLedger.{PositionLedger}
 use Rattle.decimals.specs.Decimals.{lastDigits, signedDecimal}
@@ -24,13 +25,10 @@ short = record {
   realized = pos 27 ∷ replicate 31 (pos 0);
 }
 
--- "taken 4", "cash 10205", "commission 3", "0 -2 90 27"
+-- all were taken
 worked :
     dayText 4 (told 0 []) 0 short ≡
-    116 ∷ 97 ∷ 107 ∷ 101 ∷ 110 ∷ 32 ∷ 52 ∷ 10 ∷
-    99 ∷ 97 ∷ 115 ∷ 104 ∷ 32 ∷ 49 ∷ 48 ∷ 50 ∷ 48 ∷ 53 ∷ 10 ∷
-    99 ∷ 111 ∷ 109 ∷ 109 ∷ 105 ∷ 115 ∷ 115 ∷ 105 ∷ 111 ∷ 110 ∷ 32 ∷ 51 ∷ 10 ∷
-    48 ∷ 32 ∷ 45 ∷ 50 ∷ 32 ∷ 57 ∷ 48 ∷ 32 ∷ 50 ∷ 55 ∷ 10 ∷ []
+    bytes "taken 4\ncash 10205\ncommission 3\n0 -2 90 27\n"
 unfolding dayText lineText refusedText ledgerText positionsText heldText positionText valueText signedDecimal lastDigits
 worked = refl
 
@@ -44,19 +42,14 @@ several = record {
   realized = pos 0 ∷ minus 5 ∷ replicate 30 (pos 0);
 }
 
--- "taken 1", "refused 8 at line 3 101 -100", "cash -100", "commission 0", "1 0 0 -5", "31 7 9 0"
+-- the second was refused
 ended :
     dayText 1 (told 8 (pos 101 ∷ minus 100 ∷ [])) 3 several ≡
-    116 ∷ 97 ∷ 107 ∷ 101 ∷ 110 ∷ 32 ∷ 49 ∷ 10 ∷
-    114 ∷ 101 ∷ 102 ∷ 117 ∷ 115 ∷ 101 ∷ 100 ∷ 32 ∷ 56 ∷ 32 ∷ 97 ∷ 116 ∷ 32 ∷ 108 ∷ 105 ∷ 110 ∷ 101 ∷ 32 ∷ 51 ∷ 32 ∷ 49 ∷ 48 ∷ 49 ∷ 32 ∷ 45 ∷ 49 ∷ 48 ∷ 48 ∷ 10 ∷
-    99 ∷ 97 ∷ 115 ∷ 104 ∷ 32 ∷ 45 ∷ 49 ∷ 48 ∷ 48 ∷ 10 ∷
-    99 ∷ 111 ∷ 109 ∷ 109 ∷ 105 ∷ 115 ∷ 115 ∷ 105 ∷ 111 ∷ 110 ∷ 32 ∷ 48 ∷ 10 ∷
-    49 ∷ 32 ∷ 48 ∷ 32 ∷ 48 ∷ 32 ∷ 45 ∷ 53 ∷ 10 ∷
-    51 ∷ 49 ∷ 32 ∷ 55 ∷ 32 ∷ 57 ∷ 32 ∷ 48 ∷ 10 ∷ []
+    bytes "taken 1\nrefused 8 at line 3 101 -100\ncash -100\ncommission 0\n1 0 0 -5\n31 7 9 0\n"
 unfolding dayText lineText refusedText refusalText placeText valuesText carriedText ledgerText positionsText heldText positionText valueText signedDecimal lastDigits
 ended = refl
 
--- "refused 2 at line 1"
-unopened : refusedText (told 2 []) 1 ≡ 114 ∷ 101 ∷ 102 ∷ 117 ∷ 115 ∷ 101 ∷ 100 ∷ 32 ∷ 50 ∷ 32 ∷ 97 ∷ 116 ∷ 32 ∷ 108 ∷ 105 ∷ 110 ∷ 101 ∷ 32 ∷ 49 ∷ 10 ∷ []
+-- the opening cash was refused
+unopened : refusedText (told 2 []) 1 ≡ bytes "refused 2 at line 1\n"
 unfolding refusedText refusalText placeText valuesText carriedText valueText signedDecimal lastDigits
 unopened = refl

@@ -1,18 +1,16 @@
 -- Laws of numbers read digit by digit: a number past its limit stays there, and a digit read leaves the rest to be read.
-use Prim.Native.Nat.{ℕ, zero, suc, _+_, _-_, _*_, _/_, _≤_, _<_}
-use mathlib.Core.Bool.{true, false}
-use mathlib.Core.Option.{some}
-use mathlib.Core.Path.{_≡_, refl, sym, ap, _∙_}
+use Prim.Native.Nat.{ℕ, _+_, _-_, _*_, _≤_, _<_}
+use mathlib.Core.Bool.{false}
+use mathlib.Core.Path.{_≡_, refl, sym, _∙_}
 use mathlib.Core.List.{List, [], _∷_}
 use native.Mathlib.Omega.{arith}
 use native.Mathlib.Numerals.{add-one}
-use borrow.Author.Tests.{le-leb, lt-leb, leb-true, leb-false}
+use borrow.Author.Tests.{le-leb, lt-leb, leb-false}
 use lib.Dec.{eqb, leb}
 use lib.ListN.{length, take, drop, getD, length-drop, drop-of-length-le}
 use lib.Seq.{drop-cons, take-all}
 use Rattle.types.proofs.Booleans.{by}
-use Rattle.numerals.specs.Numerals.{isDigit, further, digitsOn, numeral, bounded, numeralUpTo, withDigit}
-use Rattle.numerals.specs.declared.Number.{Number}
+use Rattle.numerals.specs.Numerals.{isDigit, further, digitsOn, bounded, numeralUpTo, withDigit}
 use Rattle.numerals.specs.declared.Number.the-variants as N
 
 -- ── one digit ──

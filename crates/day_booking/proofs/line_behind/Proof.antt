@@ -1,6 +1,7 @@
 -- `line_behind` meets its contract: the place is within the array, or there is none.
+use mathlib.Core.Path.{sym}
 use borrow.Author.Needs.{needs}
-use borrow.Author.Tests.{lt-ltb, le-ltb}
+use lib.ListN.{List·getD-eq-default}
 use Rattle.day_booking.proofs.line_behind.Statement.{statement}
 use Rattle.day_booking.proofs.line_behind.Tie as tie
 
@@ -10,5 +11,5 @@ line-behind-spec =
     (tie.spec
     (λ c. search needs)
     (λ c. search needs)
-    (λ c. rw (lt-ltb _ _ (c .before .if1 .taken)))
-    (λ c. rw (le-ltb _ _ (c .if1 .left))))
+    (λ c. search needs)
+    (λ c. sym (List·getD-eq-default (c .before .before .args .lines .now) 0 (c .if1 .left))))

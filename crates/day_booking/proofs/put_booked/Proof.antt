@@ -1,11 +1,5 @@
 -- `put_booked` meets its contract: what the call gave back is what is put.
-use Prim.Native.Nat.{ℕ}
-use native.Mathlib.Omega.{arith}
-use mathlib.Core.Path.{_≡_}
 use borrow.Author.Needs.{needs}
-use Rattle.types.specs.InOrder.{Run}
-use Rattle.position.specs.declared.PositionLedger.{PositionLedger}
-use Rattle.day.specs.Numbers.{dayBookedBy}
 use Rattle.day_booking.proofs.Printed.{run-put}
 use Rattle.day_booking.proofs.put_booked.Statement.{statement}
 use Rattle.day_booking.proofs.put_booked.Tie as tie

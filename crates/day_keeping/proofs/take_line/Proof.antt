@@ -1,8 +1,7 @@
 -- `take_line` meets its contract, by what the line says.
-use mathlib.Core.Path.{_≡_, sym, _∙_}
+use mathlib.Core.Path.{sym, _∙_}
 use borrow.Author.Needs.{needs}
 use borrow.Author.Tests.{eq-eqb, ne-eqb}
-use Rattle.day_lines.specs.Lines.{said}
 use Rattle.day_keeping.proofs.take_line.Statement.{statement}
 use Rattle.day_keeping.proofs.take_line.Tie as tie
 

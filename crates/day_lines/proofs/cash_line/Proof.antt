@@ -1,5 +1,4 @@
 -- `cash_line` meets its contract: the first word is `cash`, and the second is read.
-use mathlib.Core.Bool.{true, false}
 use mathlib.Core.Path.{_≡_, sym, _∙_}
 use borrow.Author.Needs.{needs}
 use Rattle.day_lines.specs.Words.{wordAt, alike}

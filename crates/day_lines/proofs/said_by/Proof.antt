@@ -1,5 +1,5 @@
 -- `said_by` meets its contract, by how many words there are.
-use mathlib.Core.Path.{_≡_, sym, _∙_}
+use mathlib.Core.Path.{sym, _∙_}
 use borrow.Author.Needs.{needs}
 use Rattle.day_lines.specs.Words.{words}
 use Rattle.day_lines.proofs.Says.{none-say, two-say, five-say, others-say}

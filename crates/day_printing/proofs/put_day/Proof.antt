@@ -1,5 +1,5 @@
 -- `put_day` meets its contract: behind the fills taken and the refusal there is room for the ledger.
-use Prim.Native.Nat.{ℕ, _+_, _≤_}
+use Prim.Native.Nat.{_+_, _≤_}
 use mathlib.Core.Bool.{false}
 use native.Mathlib.Omega.{arith}
 use borrow.Author.Needs.{needs}

@@ -1,5 +1,5 @@
 -- `put_ledger` meets its contract: the two totals are short, and behind them there is room for the positions.
-use Prim.Native.Nat.{ℕ, _+_, _≤_}
+use Prim.Native.Nat.{_+_, _≤_}
 use native.Mathlib.Omega.{arith}
 use borrow.Author.Needs.{needs}
 use lib.ListN.{length}

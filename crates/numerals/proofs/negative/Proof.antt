@@ -1,5 +1,4 @@
 -- `negative` meets its contract: all sizes but the largest have an amount to negate, and the least i64 is written out.
-use Prim.Native.Nat.{ℕ}
 use mathlib.Core.Path.{_≡_}
 use native.Mathlib.Omega.{arith}
 use borrow.Author.Needs.{needs}

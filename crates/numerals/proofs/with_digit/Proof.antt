@@ -1,5 +1,4 @@
 -- `with_digit` meets its contract: a digit is 0 to 9, and the number is compared with its limit before it is made.
-use Prim.Native.Nat.{_-_}
 use mathlib.Core.Path.{sym}
 use native.Mathlib.Omega.{arith}
 use borrow.Author.Needs.{needs}

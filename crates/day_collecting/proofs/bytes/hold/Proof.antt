@@ -1,10 +1,8 @@
 -- `hold` meets its contract: the byte is stored behind those that are held, or the line is too long.
-use Prim.Native.Nat.{_+_, _≤_, _<_}
-use mathlib.Core.Path.{_≡_, sym}
-use mathlib.Core.List.{[], _∷_, _++_}
+use mathlib.Core.Path.{_≡_}
 use native.Mathlib.Omega.{arith}
 use borrow.Author.Needs.{needs}
-use lib.ListN.{length, take}
+use lib.ListN.{length}
 use lib.Seq.{length-take-le}
 use Rattle.day_keeping.specs.Keeping.{kept}
 use Rattle.day_collecting.specs.Collecting.{heldIn}

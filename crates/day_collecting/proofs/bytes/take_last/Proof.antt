@@ -1,7 +1,6 @@
 -- `take_last` meets its contract: what is held is a line, if it has a byte.
-use Prim.Native.Nat.{ℕ, _≤_, _<_}
-use mathlib.Core.Path.{_≡_, sym, ap, _∙_}
-use mathlib.Core.List.{[]}
+use Prim.Native.Nat.{ℕ}
+use mathlib.Core.Path.{_≡_, refl, ap}
 use native.Mathlib.Omega.{arith}
 use borrow.Author.Needs.{needs}
 use lib.ListN.{length, take}
@@ -25,6 +24,7 @@ take-last-spec =
     let l = s .args .line .now in
     let n : length (heldIn d l) ≡ d .held = length-take-le (d .held) l (omega (arith, s .pre .0 .held, s .pre .1)) in (
       record { held = e .ensures .0 .held; fills = e .ensures .0 .fills },
+      refl,
       (λ m. last-line (kept d (s .args .numbers .now) (s .args .lines .now)) (heldIn d l) m _ (omega arith) (e .ensures .2)),
     ))
     (λ c.
@@ -33,5 +33,6 @@ take-last-spec =
     let l = s .args .line .now in
     let z : d .held ≡ 0 = omega arith in (
       record { held = s .pre .0 .held; fills = s .pre .0 .fills },
+      refl,
       (λ m. no-last-line (kept d (s .args .numbers .now) (s .args .lines .now)) (heldIn d l) m (ap (λ (n : ℕ). take n l) z)),
     )))

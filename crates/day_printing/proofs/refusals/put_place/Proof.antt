@@ -1,7 +1,7 @@
 -- `put_place` meets its contract: each piece is put behind the one before it, and there is room for all.
-use Prim.Native.Nat.{ℕ, _+_, _≤_}
+use Prim.Native.Nat.{_+_, _≤_}
 use mathlib.Core.Bool.{false}
-use mathlib.Core.List.{List, _++_}
+use mathlib.Core.List.{_++_}
 use borrow.Author.Needs.{needs}
 use lib.ListN.{length}
 use Rattle.decimals.proofs.Puts.{then, front-room, rest-room}

@@ -1,5 +1,5 @@
 -- `put_refusal` meets its contract: number and line, the values, the line feed.
-use Prim.Native.Nat.{ℕ, _+_, _≤_}
+use Prim.Native.Nat.{_+_, _≤_}
 use mathlib.Core.List.{[], _∷_, _++_}
 use borrow.Author.Needs.{needs}
 use lib.ListN.{length}

@@ -3,7 +3,7 @@ use Prim.Native.Nat.{_+_, _≤_}
 use native.Mathlib.Omega.{arith}
 use borrow.Author.Needs.{needs}
 use lib.ListN.{length}
-use Rattle.day_printing.specs.Booked.{refusalText, refusedText}
+use Rattle.day_printing.specs.Booked.{refusedText}
 use Rattle.day_printing.proofs.Texts.{none-put, is-refused, not-refused, refused-short}
 use Rattle.day_printing.proofs.refusals.put_refused.Statement.{statement}
 use Rattle.day_printing.proofs.refusals.put_refused.Tie as tie

@@ -1,0 +1,2 @@
+-- How a day that is kept is printed.
+pub mod Opened

@@ -1,0 +1,4 @@
+pub mod Cuts
+pub mod Numbers
+pub mod Taken
+pub mod Texts

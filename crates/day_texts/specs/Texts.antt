@@ -1,0 +1,86 @@
+-- What the text of a day says: first an opening cash, then fills, a line each. And that what the program keeps of the text says the same.
+use Prim.Native.Nat.{ℕ, _+_, _*_}
+use mathlib.Core.Bool.{cond}
+use mathlib.Core.Path.{_≡_}
+use mathlib.Core.List.{List, [], _∷_, _++_}
+use lib.Dec.{eqb, leb, ltb}
+use lib.ListN.{length, take}
+use Rattle.amount.specs.declared.Amount.{Amount}
+use Rattle.holding.specs.declared.Fill.{Fill}
+use Rattle.day.specs.Numbers.{fillsBy}
+use Rattle.day_lines.specs.Words.{putBefore}
+use Rattle.day_lines.specs.Lines.{said}
+use Rattle.day_lines.specs.declared.Said.{Said}
+use Rattle.day_lines.specs.declared.Said.the-variants as L
+use Rattle.day_keeping.specs.Keeping.{Kept}
+use Rattle.day_collecting.specs.Collecting.{KeptOf}
+
+-- the lines of a text, their line feeds left out: behind the last line feed there is one more, if there is a byte
+unfoldable pub linesOf : List ℕ → List (List ℕ)
+linesOf [] = []
+linesOf (b ∷ bs) = cond (eqb b 10) ([] ∷ linesOf bs) (putBefore b (linesOf bs))
+
+-- what a line says; one of more than 4,096 bytes is none of a day
+abbrev pub lineSays : List ℕ → Said
+lineSays line = cond (leb (length line) 4096) (said line) L.Other
+
+-- a day: its opening cash and the line of that, its fills and the line of each
+pub record Day : Type 0 where
+  pub cash : Amount
+  pub opened : ℕ
+  pub fills : List Fill
+  pub lines : List ℕ
+
+-- what lines say together: nothing yet, a day, or something else
+pub data Read : Type 0 where
+  unopened : Read
+  day : Day → Read
+  noDay : Read
+
+-- a day with one fill more; there are at most 100,000
+abbrev pub withFill : Day → ℕ → Fill → Read
+withFill d n f =
+    cond (ltb (length (d .fills)) 100000)
+    (day (record { cash = d .cash; opened = d .opened; fills = d .fills ++ (f ∷ []); lines = d .lines ++ (n ∷ []) }))
+    noDay
+
+-- what lines say together, and then line n: the cash is said first, and once
+abbrev pub andLine : Read → ℕ → Said → Read
+andLine r n L.Nothing = r
+andLine unopened n (L.Cash c) = day (record { cash = c; opened = n; fills = []; lines = [] })
+andLine unopened n (L.Fill f) = noDay
+andLine unopened n L.Other = noDay
+andLine (day d) n (L.Cash c) = noDay
+andLine (day d) n (L.Fill f) = withFill d n f
+andLine (day d) n L.Other = noDay
+andLine noDay n (L.Cash c) = noDay
+andLine noDay n (L.Fill f) = noDay
+andLine noDay n L.Other = noDay
+
+-- what lines say together, and then these, from line n on
+unfoldable pub readOn : Read → ℕ → List (List ℕ) → Read
+readOn r n [] = r
+readOn r n (l ∷ ls) = readOn (andLine r n (lineSays l)) (n + 1) ls
+
+-- what a text says; its lines are counted from 1
+abbrev pub dayRead : List ℕ → Read
+dayRead text = readOn unopened 1 (linesOf text)
+
+-- ── as the program keeps it ──
+
+-- the day that is kept
+abbrev pub dayKept : Kept → Day
+dayKept k = record {
+  cash = k .day .cash;
+  opened = k .day .opened;
+  fills = fillsBy (take (5 * k .day .fills) (k .numbers));
+  lines = take (k .day .fills) (k .lines);
+}
+
+-- what is kept, as what lines say together
+abbrev pub readKept : Kept → Read
+readKept k = cond (k .day .good) (cond (eqb (k .day .opened) 0) unopened (day (dayKept k))) noDay
+
+-- What is kept of a text is what the text says.
+abbrev pub KeptAsSaid : Type 0
+KeptAsSaid = (text : List ℕ) (k : Kept) → KeptOf text k → readKept k ≡ dayRead text
