@@ -6,15 +6,15 @@ use mathlib.Core.List.{List, [], _∷_, _++_}
 use native.Mathlib.Omega.{arith}
 use lib.ListN.{length, take, getD}
 use Rattle.types.specs.Replies.{Reply, done, refused}
-use Rattle.types.specs.InOrder.{ended, oneMore, ifDone, andThen, inOrder, afterAll}
+use Rattle.types.specs.Runs.{ended, oneMore, ifDone, andThen, untilRefused}
 use Rattle.types.proofs.Once.{never}
-use Rattle.types.proofs.InOrders.{run-stands, run-each, run-all, run-first, run-keeps, run-append}
+use Rattle.types.proofs.Runs.{afterAll, run-stands, run-each, run-all, run-first, run-keeps, run-append}
 use Rattle.holding.specs.declared.Fill.{Fill}
 use Rattle.position.specs.declared.PositionLedger.{PositionLedger}
 use Rattle.position.specs.Ledger.{Change, isLedger, kept, booked, bookedAll}
 use Rattle.position.proofs.Kept.{fill-keeps}
 use Rattle.day.specs.Day.{ledgerAfter, replyAfter, bookedInOrder, dayBooked}
-use Rattle.day.specs.Meaning.{FillByFill, AsSingly, EachTaken, AllTaken, FirstRefused, DayKeeps, TestedFirst, InTwoCalls}
+use Rattle.day.specs.Meaning.{FillByFill, AsSingly, EachTaken, AllTaken, FirstRefused, DayKeeps, NoLedger, NoFills, OneFill, InTwoCalls}
 
 -- booking singly is offering each in order
 singly : (l : PositionLedger) (fs : List Fill) → afterAll ledgerAfter l fs ≡ bookedAll l fs
@@ -38,7 +38,7 @@ unfolding booked
 none-booked l f h = let e : booked l f ≡ kept l 1 [] = rw h in ap (λ (c : Change). c .reply) (sym e)
 
 pub fill-by-fill : FillByFill
-unfolding inOrder
+unfolding untilRefused
 fill-by-fill l f fs = by (isLedger l) refl
   where
     -- the day of a ledger, by the fill's reply
@@ -84,9 +84,20 @@ first-refused l fs d n vs h e =
 pub day-keeps : DayKeeps
 day-keeps l fs h = rw (of-ledger l fs h) (run-keeps ledgerAfter replyAfter (λ (m : PositionLedger). isLedger m ≡ true) (λ m f _. fill-keeps m f .ledger) l fs h)
 
-pub tested-first : TestedFirst
-unfolding inOrder
-tested-first l = record { malformed = λ h fs. of-none l fs h; no-fills = λ h. of-ledger l [] h }
+pub no-ledger : NoLedger
+no-ledger = of-none
+
+pub no-fills : NoFills
+unfolding untilRefused
+no-fills l h = of-ledger l [] h
+
+pub one-fill : OneFill
+one-fill l f = fill-by-fill l f [] ∙ by (booked l f .reply) refl
+  where
+    by : (a : Reply (Unit {0})) → booked l f .reply ≡ a →
+        ifDone a (oneMore (dayBooked (booked l f .ledger) [])) (ended l a) ≡ record { stands = booked l f .ledger; taken = ifDone a 1 0; reply = a }
+    by (done u) e = rw (no-fills (booked l f .ledger) (fill-keeps l f .ledger e))
+    by (refused n vs) e = rw (fill-keeps l f .same n vs e)
 
 pub in-two-calls : InTwoCalls
 in-two-calls l fs gs = by (isLedger l) refl

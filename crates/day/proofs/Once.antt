@@ -1,6 +1,6 @@
 -- Any two results that meet a day's promise are equal: the ledger and the count are the definition's, and its reply names one outcome.
 use mathlib.Core.Path.{_≡_, ap, sym, _∙_}
-use Rattle.types.specs.InOrder.{Run}
+use Rattle.types.specs.Runs.{Run}
 use Rattle.types.proofs.Once.{one-outcome}
 use Rattle.position.specs.declared.PositionLedger.{PositionLedger}
 use Rattle.day.specs.Day.{dayOf}

@@ -10,8 +10,8 @@ use lib.IntN.{ℤ}
 use lib.ListN.{length, getD, drop}
 use lib.Seq.{drop-cons, drop-length}
 use Rattle.types.specs.Replies.{Reply, done, refused, ifRecord}
-use Rattle.types.specs.InOrder.{Run, ended, counting}
-use Rattle.types.proofs.InOrders.{counting-none}
+use Rattle.types.specs.Runs.{Run, ended, counting}
+use Rattle.types.proofs.Runs.{counting-none}
 use Rattle.holding.specs.declared.Fill.{Fill}
 use Rattle.position.specs.declared.PositionLedger.{PositionLedger}
 use Rattle.position.specs.Ledger.{isLedger, booked}

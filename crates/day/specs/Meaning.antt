@@ -6,11 +6,12 @@ use mathlib.Core.List.{List, [], _∷_, _++_}
 use lib.IntN.{ℤ}
 use lib.ListN.{length, take, getD}
 use Rattle.types.specs.Replies.{done, refused}
-use Rattle.types.specs.InOrder.{ended, oneMore, ifDone, andThen}
+use Rattle.types.specs.Runs.{ended, oneMore, ifDone, andThen}
 use Rattle.holding.specs.declared.Fill.{Fill}
 use Rattle.position.specs.declared.PositionLedger.{PositionLedger}
 use Rattle.position.specs.Ledger.{isLedger, booked, bookedAll}
 use Rattle.day.specs.Day.{dayBooked}
+use Rattle.day.specs.Numbers.{fillsNumbers, dayBookedBy}
 
 -- Fill by fill: one that is answered 0 is counted, and the others follow from the ledger that it leaves; any other answer ends the day there.
 abbrev pub FillByFill : Type 0
@@ -45,15 +46,22 @@ FirstRefused = (l : PositionLedger) (fs : List Fill) (d : Fill) (n : ℕ) (vs : 
 abbrev pub DayKeeps : Type 0
 DayKeeps = (l : PositionLedger) (fs : List Fill) → isLedger l ≡ true → isLedger (dayBooked l fs .stands) ≡ true
 
--- A record that is no ledger is answered 1 at once and comes back, with no fills too; to a ledger, no fills are 0.
-pub record AtOnce (l : PositionLedger) : Type 0 where
-  pub malformed : isLedger l ≡ false → (fs : List Fill) → dayBooked l fs ≡ ended l (refused 1 [])
-  pub no-fills : isLedger l ≡ true → dayBooked l [] ≡ ended l (done tt)
+-- A record that is no ledger is answered 1 at once and comes back, whatever the fills are, with none too.
+abbrev pub NoLedger : Type 0
+NoLedger = (l : PositionLedger) (fs : List Fill) → isLedger l ≡ false → dayBooked l fs ≡ ended l (refused 1 [])
 
--- And so it is with every record.
-abbrev pub TestedFirst : Type 0
-TestedFirst = (l : PositionLedger) → AtOnce l
+-- To a ledger, no fills are 0.
+abbrev pub NoFills : Type 0
+NoFills = (l : PositionLedger) → isLedger l ≡ true → dayBooked l [] ≡ ended l (done tt)
+
+-- A list of one fill is that fill, booked singly.
+abbrev pub OneFill : Type 0
+OneFill = (l : PositionLedger) (f : Fill) → let one = booked l f in dayBooked l (f ∷ []) ≡ record { stands = one .ledger; taken = ifDone (one .reply) 1 0; reply = one .reply }
 
 -- Fills and then others in one call are the same as in two, the second only if the first took all of its own.
 abbrev pub InTwoCalls : Type 0
 InTwoCalls = (l : PositionLedger) (fs gs : List Fill) → dayBooked l (fs ++ gs) ≡ andThen (dayBooked l fs) (λ (m : PositionLedger). dayBooked m gs)
+
+-- Fills that are lent as numbers are booked as the fills are.
+abbrev pub ByNumbers : Type 0
+ByNumbers = (l : PositionLedger) (fs : List Fill) → dayBookedBy l (fillsNumbers fs) ≡ dayBooked l fs

@@ -1,16 +1,16 @@
 -- Fills lent as numbers, five each: the symbol, the side (0 a Bid, 1 an Ask), the quantity, the price and the commission.
 use Prim.Native.Nat.{ℕ, zero, suc, _/_, _%_}
 use mathlib.Core.Bool.{Bool, not, cond, _&&_}
-use mathlib.Core.List.{List, [], _∷_}
+use mathlib.Core.List.{List, [], _∷_, _++_}
 use lib.Dec.{eqb}
 use lib.IntN.{ℤ, pos, natAbs}
 use lib.ListN.{length, getD, drop}
 use lib.Signed.{ltZ}
 use Rattle.amount.specs.Whole.{amount}
 use Rattle.types.specs.Limits.{sizedWithin, symbols}
-use Rattle.types.specs.Named.{sideNamed}
+use Rattle.types.specs.Named.{sideNamed, sideNumber}
 use Rattle.types.specs.Replies.{refused}
-use Rattle.types.specs.InOrder.{Run, ended}
+use Rattle.types.specs.Runs.{Run, ended}
 use Rattle.types.specs.declared.Side.the-variants.{Bid}
 use Rattle.holding.specs.declared.Fill.{Fill}
 use Rattle.position.specs.declared.PositionLedger.{PositionLedger}
@@ -25,18 +25,18 @@ isUpTo most z = not (ltZ z (pos 0)) && sizedWithin most z
 abbrev pub maxWord : ℕ
 maxWord = 4294967295
 
--- numbers that make a fill: a side is 0 or 1, and the others fit their bits
-abbrev pub makeFill : ℤ → ℤ → ℤ → ℤ → Bool
-makeFill symbol side quantity price = isUpTo maxWord symbol && (isUpTo 1 side && (isUpTo maxWord quantity && isUpTo maxWord price))
+-- numbers that are a fill: a side is 0 or 1, and the others fit their bits
+abbrev pub areFill : ℤ → ℤ → ℤ → ℤ → Bool
+areFill symbol side quantity price = isUpTo maxWord symbol && (isUpTo 1 side && (isUpTo maxWord quantity && isUpTo maxWord price))
 
--- numbers that make none count as this one, which is outside its limits: no symbol has its number
+-- numbers that are none count as this one, which is outside its limits: no symbol has its number
 abbrev pub noFill : Fill
 noFill = record { symbol = symbols; side = Bid; quantity = 0; price = 0; commission = amount (pos 0) }
 
 -- the fill of five numbers
 unfoldable pub fillBy : ℤ → ℤ → ℤ → ℤ → ℤ → Fill
 fillBy symbol side quantity price commission =
-    cond (makeFill symbol side quantity price)
+    cond (areFill symbol side quantity price)
     (record { symbol = natAbs symbol; side = sideNamed (natAbs side); quantity = natAbs quantity; price = natAbs price; commission = amount commission })
     noFill
 
@@ -53,7 +53,16 @@ firstFills (suc n) ns = firstFill ns ∷ firstFills n (drop 5 ns)
 abbrev pub fillsBy : List ℤ → List Fill
 fillsBy ns = firstFills (length ns / 5) ns
 
--- `apply_fills` of numbers: 1, then 2 if they are no multiple of five, else as of the fills that they make
+-- the numbers of a fill
+abbrev pub fillNumbers : Fill → List ℤ
+fillNumbers f = pos (f .symbol) ∷ pos (sideNumber (f .side)) ∷ pos (f .quantity) ∷ pos (f .price) ∷ f .commission .value ∷ []
+
+-- the numbers of fills
+unfoldable pub fillsNumbers : List Fill → List ℤ
+fillsNumbers [] = []
+fillsNumbers (f ∷ fs) = fillNumbers f ++ fillsNumbers fs
+
+-- `apply_fills` of numbers: 1, then 2 if they are no multiple of five, else as of the fills that they are
 unfoldable pub dayBookedBy : PositionLedger → List ℤ → Run PositionLedger
 dayBookedBy l ns =
     cond (isLedger l)

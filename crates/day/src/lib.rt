@@ -12,7 +12,7 @@ use types::Refusal;
 
 pub mod rows; // rows.rt: fills lent as numbers, five each, booked to a ledger that is lent as its rows
 
-// A ledger after a day's fills: how many were taken, and how it ended, which is the refusal of the first that was not.
+// A ledger after a day's fills, how many were taken, and how it ended: done, or the refusal that ended it.
 pub struct DayBooked {
     pub ledger: PositionLedger,
     pub taken: u64,

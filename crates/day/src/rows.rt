@@ -7,11 +7,10 @@ ghost use Prim.Native.Nat.{_+_, _≤_, _<_, _%_};
 ghost use lib.IntN.{pos};
 ghost use lib.ListN.{length, getD, drop};
 ghost use Rattle.amount.specs.Whole.{amount};
-ghost use Rattle.types.specs.Answers.{replyOfOutcome};
 ghost use Rattle.position.specs.Ledger.{isLedger};
 ghost use Rattle.position.specs.Lent.{ledgerAt, lentLedger, leftLedger};
-ghost use Rattle.day.specs.Day.{bookedInOrder};
-ghost use Rattle.day.specs.Numbers.{isUpTo, makeFill, fillBy, firstFill, fillsBy, dayBookedBy};
+ghost use Rattle.day.specs.Day.{bookedInOrder, rowsDayOf};
+ghost use Rattle.day.specs.Numbers.{isUpTo, areFill, fillBy, firstFill, fillsBy, dayBookedBy};
 use crate::RowsDay;
 use amount::Amount;
 use holding::Fill;
@@ -34,15 +33,15 @@ fn is_up_to(n: Amount, most: u64) -> bool
     n.within(most)
 }
 
-// Whether these numbers make a fill.
-fn make_fill(symbol: Amount, side: Amount, quantity: Amount, price: Amount) -> bool
-    ensures { λ r. ⌜ r ≡ makeFill (symbol .value) (side .value) (quantity .value) (price .value) ⌝ }
+// Whether these numbers are a fill.
+fn are_fill(symbol: Amount, side: Amount, quantity: Amount, price: Amount) -> bool
+    ensures { λ r. ⌜ r ≡ areFill (symbol .value) (side .value) (quantity .value) (price .value) ⌝ }
 {
     is_up_to(symbol, WORD)
         & (is_up_to(side, 1) & (is_up_to(quantity, WORD) & is_up_to(price, WORD)))
 }
 
-// The fill of five numbers; where they make none, one of a symbol that there is not, which is outside its limits.
+// The fill of five numbers; where they are none, one of a symbol that there is not, which is outside its limits.
 fn fill_by(
     symbol: Amount,
     side: Amount,
@@ -52,7 +51,7 @@ fn fill_by(
 ) -> Fill
     ensures { λ r. ⌜ r ≡ fillBy (symbol .value) (side .value) (quantity .value) (price .value) (commission .value) ⌝ }
 {
-    if make_fill(symbol, side, quantity, price) {
+    if are_fill(symbol, side, quantity, price) {
         return Fill {
             symbol: symbol.size() as u32,
             side: Side::of(side.size() == 1),
@@ -70,6 +69,7 @@ fn fill_by(
     }
 }
 
+// The number at a place.
 fn number_at(numbers: &[i64], at: usize) -> Amount
     requires { ⌜ at < length (now numbers) ⌝ }
     ensures { λ r. ⌜ r ≡ amount (getD (now (numbers .entry)) at (pos 0)) ⌝ }
@@ -99,7 +99,7 @@ fn book_all(
     numbers: &[i64],
 ) -> RowsDay
     requires { ⌜ (isLedger (ledgerAt (now quantities) (now averages) (now realized) totals) ≡ true) × (length (now numbers) % 5 ≡ 0) ⌝ }
-    ensures { λ r. ⌜ record { stands = leftLedger quantities averages realized (r .totals); taken = r .taken; reply = replyOfOutcome (r .outcome) } ≡ bookedInOrder (lentLedger quantities averages realized totals) (fillsBy (now (numbers .entry))) ⌝ }
+    ensures { λ r. ⌜ rowsDayOf (leftLedger quantities averages realized (r .totals)) r ≡ bookedInOrder (lentLedger quantities averages realized totals) (fillsBy (now (numbers .entry))) ⌝ }
 {
     let mut standing = totals;
     let mut taken = 0;
@@ -107,9 +107,9 @@ fn book_all(
     while left > 0 {
         let at = numbers.len() - left;
         let fill = fill_at(numbers, at);
-        let done = rows::apply_to_ledger(quantities, averages, realized, standing, fill);
-        let outcome = done.outcome;
-        standing = done.totals;
+        let tried = rows::apply_to_ledger(quantities, averages, realized, standing, fill);
+        let outcome = tried.outcome;
+        standing = tried.totals;
         let Outcome::Done = outcome else {
             return RowsDay {
                 totals: standing,
@@ -135,7 +135,7 @@ pub fn apply_fills(
     totals: Totals,
     numbers: &[i64],
 ) -> RowsDay
-    ensures { λ r. ⌜ record { stands = leftLedger quantities averages realized (r .totals); taken = r .taken; reply = replyOfOutcome (r .outcome) } ≡ dayBookedBy (lentLedger quantities averages realized totals) (now (numbers .entry)) ⌝ }
+    ensures { λ r. ⌜ rowsDayOf (leftLedger quantities averages realized (r .totals)) r ≡ dayBookedBy (lentLedger quantities averages realized totals) (now (numbers .entry)) ⌝ }
 {
     if rows::is_ledger(quantities, averages, realized, totals) {
         if numbers.len() % 5 == 0 {

@@ -10,7 +10,7 @@ use lib.IntN.{ℤ}
 use lib.ListN.{length, take, getD}
 use lib.Seq.{length-take-le, getD-take}
 use Rattle.types.specs.Replies.{Reply, done, refused}
-use Rattle.types.specs.InOrder.{Run}
+use Rattle.types.specs.Runs.{Run}
 use Rattle.types.proofs.Booleans.{by}
 use Rattle.types.proofs.Once.{never}
 use Rattle.told.specs.Numbers.{told, tell, nothing}
@@ -25,10 +25,10 @@ use Rattle.day.specs.Numbers.{noFill, fillsBy, dayBookedBy}
 use Rattle.day.proofs.Meaning.{first-refused}
 use Rattle.day_printing.specs.Booked.{refusedText, dayText}
 use Rattle.day_keeping.specs.declared.Collected.{Collected}
-use Rattle.day_keeping.specs.Keeping.{kept}
-use Rattle.day_collecting.specs.Collecting.{KeptOf}
+use Rattle.day_keeping.specs.Inner.Keeping.{kept}
+use Rattle.day_collecting.specs.Inner.Collecting.{KeptOf}
 use Rattle.day_texts.specs.Texts.{day, dayKept, dayRead}
-use Rattle.day_texts.proofs.Numbers.{fills-count}
+use Rattle.day_texts.proofs.Numbers.{kept-count}
 use Rattle.day_texts.proofs.Texts.{kept-as-said}
 use Rattle.day_booking.specs.Days.{runText, dayPrinted, textPrinted}
 use Rattle.day_booking.specs.Inner.Opened.{openedText}
@@ -85,7 +85,7 @@ kept-printed d numbers lines h =
     by (isMoney (d .cash .value))
     (λ t.
     let l = fresh-ledger (d .cash .value) t in
-    rw (t, l, m) (run-lines (fresh (d .cash .value)) (fillsBy ns) lines l ∙ rw (fills-count numbers (d .fills) h)))
+    rw (t, l, m) (run-lines (fresh (d .cash .value)) (fillsBy ns) lines l ∙ rw (kept-count numbers (d .fills) h)))
     (λ t. rw t)
 
 -- so what is put of them is what is printed of the text

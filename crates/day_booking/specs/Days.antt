@@ -3,7 +3,7 @@ use Prim.Native.Nat.{ℕ}
 use mathlib.Core.Bool.{cond}
 use mathlib.Core.List.{List, []}
 use lib.ListN.{getD}
-use Rattle.types.specs.InOrder.{Run}
+use Rattle.types.specs.Runs.{Run}
 use Rattle.told.specs.Numbers.{told, tell, nothing}
 use Rattle.position.specs.declared.PositionLedger.{PositionLedger}
 use Rattle.position.specs.Ledger.{isMoney, fresh}

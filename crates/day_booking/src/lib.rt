@@ -9,8 +9,8 @@ ghost use Prim.Native.Nat.{ℕ, _≤_};
 ghost use lib.ListN.{length, getD};
 ghost use Rattle.decimals.specs.Decimals.{Puts};
 ghost use Rattle.day.specs.Numbers.{dayBookedBy};
-ghost use Rattle.day_keeping.specs.Keeping.{kept};
-ghost use Rattle.day_collecting.specs.Collecting.{Within, KeptOf};
+ghost use Rattle.day_keeping.specs.Inner.Keeping.{kept};
+ghost use Rattle.day_collecting.specs.Inner.Collecting.{Within, KeptOf};
 ghost use Rattle.day_booking.specs.Days.{runText};
 ghost use Rattle.day_booking.specs.Inner.Opened.{openedText, PutsKept};
 use amount::Amount;
@@ -20,9 +20,10 @@ use day_keeping::Collected;
 use day_printing::Ended;
 use day_printing::put_day;
 use day_printing::refusals::put_refused;
+use inputs::open_named;
+use inputs::write_out;
 use libc::STDERR_FILENO;
 use libc::STDIN_FILENO;
-use libc::STDOUT_FILENO;
 use position::PositionLedger;
 use told::Told;
 use types::Outcome;
@@ -92,15 +93,6 @@ fn put_opened(
     put_booked(made.ledger, numbers, lines, out)
 }
 
-// Writes what is printed, or says why it cannot.
-fn write_out(out: &[u8], used: usize) {
-    if used <= out.len() {
-        if !io::write_all(STDOUT_FILENO, &out[..used]) {
-            os::fail(b"write");
-        }
-    }
-}
-
 // The same of a day that is kept: what is printed of the text that it is kept of.
 fn put_kept(day: Collected, numbers: &[i64; 500000], lines: &[u64; 100000], out: &mut [u8]) -> usize
     requires { ⌜ Within day × (day .good ≡ true) × (day .opened ≡ 0 → ⊥) × (4000 ≤ length (now out)) ⌝ }
@@ -121,6 +113,7 @@ fn book(day: Collected, numbers: &[i64; 500000], lines: &[u64; 100000])
     write_out(out, used);
 }
 
+// Reads a day, and books it if it is one.
 fn take_day(fd: i32, name: &[u8]) {
     let mut numbers = [0i64; 500000];
     let mut lines = [0u64; 100000];
@@ -134,22 +127,17 @@ fn take_day(fd: i32, name: &[u8]) {
     }
 }
 
+// The program.
 pub fn take() {
     if os::arg_count() < 2 {
         take_day(STDIN_FILENO, b"stdin");
         return;
     }
     let mut path = io::buffer();
-    let n = os::arg(1, &mut path);
-    if os::errno() != 0 {
-        os::fail(b"path");
-        return;
+    let named = open_named(&mut path);
+    let end = named.length;
+    if named.fd >= 0 {
+        take_day(named.fd, &path[..end]);
+        libc::close(named.fd);
     }
-    let fd = os::open_read(&path[..n]);
-    if fd < 0 {
-        os::fail(&path[..n]);
-        return;
-    }
-    take_day(fd, &path[..n]);
-    libc::close(fd);
 }

@@ -8,8 +8,8 @@ use native.Mathlib.Numerals.{add-one}
 use borrow.Author.Tests.{eq-eqb, ne-eqb, lt-ltb, le-ltb}
 use lib.ListN.{length, take, drop, getD, set, length-append, drop-of-length-le}
 use lib.Seq.{drop-cons, take-suc-set}
-use Rattle.day_keeping.specs.Keeping.{Kept, spoilt, with, lineEnded}
-use Rattle.day_collecting.specs.Collecting.{finished, lastEnded, oneHeld, textTaken, Goes, Took}
+use Rattle.day_keeping.specs.Inner.Keeping.{Kept, spoilt, with, lineEnded}
+use Rattle.day_collecting.specs.Inner.Collecting.{finished, lastEnded, oneHeld, textTaken, Goes, Took}
 
 -- ── a byte ──
 

@@ -10,8 +10,8 @@ use Rattle.types.specs.Quoted.{bytes}
 use Rattle.numerals.specs.Numerals.{digitsOn}
 use Rattle.day_lines.specs.Words.{spoken, parts, notEmpty}
 use Rattle.day_lines.specs.Lines.{saidBy}
-use Rattle.day_keeping.specs.Keeping.{Kept}
-use Rattle.day_collecting.specs.Collecting.{textTaken}
+use Rattle.day_keeping.specs.Inner.Keeping.{Kept}
+use Rattle.day_collecting.specs.Inner.Collecting.{textTaken}
 
 -- a day with this line to read, opening line, cash and number of fills
 abbrev at : ℕ → ℕ → ℤ → ℕ → Bool → Bool → List ℤ → List ℕ → Kept

@@ -5,8 +5,8 @@ ghost use mathlib.Core.List.{List, [], _∷_};
 ghost use Prim.Native.Nat.{ℕ};
 ghost use lib.IntN.{ℤ};
 ghost use lib.ListN.{length};
-ghost use Rattle.day_keeping.specs.Keeping.{kept, lineEnded};
-ghost use Rattle.day_collecting.specs.Collecting.{textTaken, Goes, heldIn, Within};
+ghost use Rattle.day_keeping.specs.Inner.Keeping.{kept, lineEnded};
+ghost use Rattle.day_collecting.specs.Inner.Collecting.{textTaken, Goes, heldIn, Within};
 use day_keeping::Collected;
 use day_keeping::fault;
 use day_keeping::next_line;
@@ -86,8 +86,8 @@ pub fn take_last(
     numbers: &mut [i64; 500000],
     lines: &mut [u64; 100000],
 ) -> Collected
-    requires { ⌜ Within day × (length (now line) ≡ 4096) ⌝ }
-    ensures { λ r. ⌜ Within r × (r .more ≡ false) × (day .more ≡ true → kept r (now (numbers .exit)) (now (lines .exit)) ≡ textTaken (kept day (now (numbers .entry)) (now (lines .entry))) (heldIn day (now (line .entry))) []) ⌝ }
+    requires { ⌜ Within day × (length (now line) ≡ 4096) × (day .more ≡ true) ⌝ }
+    ensures { λ r. ⌜ Within r × (r .more ≡ false) × (kept r (now (numbers .exit)) (now (lines .exit)) ≡ textTaken (kept day (now (numbers .entry)) (now (lines .entry))) (heldIn day (now (line .entry))) []) ⌝ }
 {
     let mut after = day;
     if day.held > 0 {

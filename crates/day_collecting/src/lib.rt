@@ -5,8 +5,8 @@ ghost use mathlib.Core.Bool.{true, _||_};
 ghost use mathlib.Core.List.{List};
 ghost use Prim.Native.Nat.{ℕ};
 ghost use lib.ListN.{length};
-ghost use Rattle.day_keeping.specs.Keeping.{kept};
-ghost use Rattle.day_collecting.specs.Collecting.{heldIn, Within, Took, KeptOf};
+ghost use Rattle.day_keeping.specs.Inner.Keeping.{kept};
+ghost use Rattle.day_collecting.specs.Inner.Collecting.{heldIn, Within, Took, KeptOf};
 
 mod bytes; // bytes.rt: the bytes of a text, one by one
 

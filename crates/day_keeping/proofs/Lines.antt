@@ -11,7 +11,7 @@ use Rattle.day_lines.specs.Lines.{said}
 use Rattle.day_lines.specs.declared.Said.{Said}
 use Rattle.day_lines.specs.declared.Said.the-variants as L
 use Rattle.day_keeping.specs.declared.Collected.{Collected}
-use Rattle.day_keeping.specs.Keeping.{Kept, kept, with, lineTaken, nextLine, lineEnded}
+use Rattle.day_keeping.specs.Inner.Keeping.{Kept, kept, with, lineTaken, nextLine, lineEnded}
 
 -- no line keeps more fills than there is room for
 pub few-fills : (s : Said) (k : Kept) → k .day .fills ≤ 100000 → lineTaken s k .day .fills ≤ 100000

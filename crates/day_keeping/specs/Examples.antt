@@ -9,7 +9,7 @@ use Rattle.amount.specs.Whole.{amount}
 use Rattle.types.specs.declared.Side.the-variants.{Ask}
 use Rattle.holding.specs.declared.Fill.{Fill}
 use Rattle.day_lines.specs.declared.Said.the-variants as L
-use Rattle.day_keeping.specs.Keeping.{Kept, lineTaken}
+use Rattle.day_keeping.specs.Inner.Keeping.{Kept, lineTaken}
 
 -- at line 7, with this opening line, cash and count of fills
 abbrev at : ℕ → ℤ → ℕ → Bool → List ℤ → List ℕ → Kept

@@ -1,10 +1,11 @@
 // What is kept of a day as its lines are read: the opening cash, and each fill as five numbers and the number of its line. The first line that is
-// none of a day is said on standard error, and ends the reading. specs/Keeping.antt says what is kept.
+// none of a day is said on standard error, and ends the reading. specs/Inner/Keeping.antt says what is kept.
 ghost use mathlib.Core.Path.{_≡_};
 ghost use Prim.Native.Nat.{_+_, _≤_};
 ghost use lib.Seq.{sets};
 ghost use Rattle.day_lines.specs.Lines.{said};
-ghost use Rattle.day_keeping.specs.Keeping.{kept, spoilt, cashTaken, fillNumbers, fillKept, lineTaken, nextLine};
+ghost use Rattle.day.specs.Numbers.{fillNumbers};
+ghost use Rattle.day_keeping.specs.Inner.Keeping.{kept, spoilt, cashTaken, fillKept, lineTaken, nextLine};
 use amount::Amount;
 use day_lines::Said;
 use holding::Fill;

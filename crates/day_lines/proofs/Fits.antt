@@ -1,13 +1,10 @@
 -- A fill that a line says has a symbol, a quantity and a price of 32 bits.
 use Prim.Native.Nat.{ℕ, _≤_}
 use mathlib.Core.List.{List, [], _∷_}
-use mathlib.Core.Option.{Option, none, some}
-use native.Mathlib.Omega.{arith}
-use borrow.Author.Tests.{leb-true}
-use lib.Dec.{leb}
 use Rattle.types.proofs.Booleans.{by}
 use Rattle.holding.specs.declared.Fill.{Fill}
-use Rattle.numerals.specs.Numerals.{numeral, bounded, numeralUpTo, signedOf}
+use Rattle.numerals.specs.Numerals.{numeralUpTo, signedOf}
+use Rattle.numerals.proofs.Digits.{read-fits}
 use Rattle.numerals.specs.Inner.Sizes.{sizeOf}
 use Rattle.numerals.specs.declared.Number.{Number}
 use Rattle.numerals.specs.declared.Number.the-variants as N
@@ -32,14 +29,6 @@ SmallIn (L.Cash c) = Unit {0}
 SmallIn (L.Fill f) = Small f
 SmallIn L.Other = Unit {0}
 
--- a number that is read is within its limit
-within : (limit : ℕ) (w : List ℕ) → sizeOf (numeralUpTo limit w) ≤ limit
-within limit w = go (numeral w)
-  where
-    go : (n : Option ℕ) → sizeOf (bounded limit n) ≤ limit
-    go none = omega arith
-    go (some n) = by (leb n limit) (λ t. rw t (leb-true n limit t)) (λ t. rw t (omega arith))
-
 fill-small : (s : Number) (d : Sided) (q p : Number) (c : Signed) → sizeOf s ≤ 4294967295 → sizeOf q ≤ 4294967295 → sizeOf p ≤ 4294967295 → SmallIn (fillSaid s d q p c)
 fill-small (N.Is s) (D.Is d) (N.Is q) (N.Is p) (S.Is c) x y z = record { symbol = x; quantity = y; price = z }
 fill-small (N.Is s) (D.Is d) (N.Is q) (N.Is p) S.Other x y z = tt
@@ -60,5 +49,5 @@ said-small (a ∷ b ∷ []) = by (alike a cash) (λ t. rw t (cash-small (signedO
 said-small (a ∷ b ∷ c ∷ []) = tt
 said-small (a ∷ b ∷ c ∷ d ∷ []) = tt
 said-small (a ∷ b ∷ c ∷ d ∷ e ∷ []) =
-    fill-small (numeralUpTo 4294967295 a) (sideWord b) (numeralUpTo 4294967295 c) (numeralUpTo 4294967295 d) (signedOf e) (within 4294967295 a) (within 4294967295 c) (within 4294967295 d)
+    fill-small (numeralUpTo 4294967295 a) (sideWord b) (numeralUpTo 4294967295 c) (numeralUpTo 4294967295 d) (signedOf e) (read-fits 4294967295 a) (read-fits 4294967295 c) (read-fits 4294967295 d)
 said-small (a ∷ b ∷ c ∷ d ∷ e ∷ f ∷ more) = tt

@@ -17,6 +17,14 @@ use Rattle.numerals.specs.declared.Signed.the-variants as S
 use Rattle.day_lines.specs.declared.Said.{Said}
 use Rattle.day_lines.specs.declared.Said.the-variants as L
 
+-- the most bytes of a line
+abbrev pub maxLine : ℕ
+maxLine = 4096
+
+-- the most fills of a day
+abbrev pub maxFills : ℕ
+maxFills = 100000
+
 -- `cash`
 abbrev pub cash : List ℕ
 cash = bytes "cash"
@@ -77,6 +85,6 @@ saidBy (a ∷ b ∷ c ∷ d ∷ []) = L.Other
 saidBy (a ∷ b ∷ c ∷ d ∷ e ∷ []) = fillLine a b c d e
 saidBy (a ∷ b ∷ c ∷ d ∷ e ∷ f ∷ more) = L.Other
 
--- what a line says, its remark and its line feed left out
+-- what a line says, its remark left out; its line feed is none of it
 abbrev pub said : List ℕ → Said
 said line = saidBy (words (spoken line))

@@ -48,6 +48,7 @@ fn spoken_end(line: &[u8]) -> usize
     i
 }
 
+// The side that a word is.
 fn side(word: &[u8]) -> Sided
     ensures { λ r. ⌜ r ≡ sideWord (now (word .entry)) ⌝ }
 {
@@ -132,6 +133,7 @@ fn cash_line(text: &[u8]) -> Said
     Said::Other
 }
 
+// What the words of a text say.
 fn said_by(text: &[u8]) -> Said
     ensures { λ r. ⌜ r ≡ saidBy (wordsOf (now (text .entry))) ⌝ }
 {

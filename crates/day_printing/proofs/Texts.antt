@@ -16,11 +16,12 @@ use Rattle.holding.specs.declared.Position.{Position}
 use Rattle.decimals.specs.Decimals.{decimal, Puts}
 use Rattle.decimals.proofs.Digits.{decimal-short, signed-short}
 use Rattle.decimals.proofs.Puts.{then, kept}
-use Rattle.day_printing.specs.Booked.{valueText, amountText, lineText, carriedText, valuesText, lineWord, placeText, refusalText, refusedText, isAllZero, positionText, heldText, positionsText, totalText}
+use Rattle.types.specs.Quoted.{bytes}
+use Rattle.day_printing.specs.Booked.{valueText, amountText, lineText, carriedText, valuesText, placeText, refusalText, refusedText, isAllZero, positionText, heldText, positionsText, totalText}
 
 -- no byte put
-pub none-put : (at : ℕ) (o : List ℕ) → Puts [] at o o at
-none-put at o = record { stored = refl; behind = omega arith }
+pub none-put : (at : ℕ) (o : List ℕ) → at ≤ length o → Puts [] at o o at
+none-put at o h = record { stored = refl; behind = omega arith; fits = h }
 
 -- ── a text that may be left out ──
 
@@ -93,7 +94,7 @@ unfolding placeText
 place-short number line =
     omega (
       arith,
-      length-append (valueText false number) (lineWord ++ valueText false line),
+      length-append (valueText false number) ((bytes " at line") ++ valueText false line),
       value-short false number,
       value-short false line,
     )
@@ -158,7 +159,7 @@ refused-room t line {o} {p} {at} {u} more a h =
 -- ── position by position ──
 
 module _ (position : ℕ → Position) (at : ℕ) (o : List ℕ) where
-  pub no-position : Puts (positionsText position 0) at o o at
+  pub no-position : at ≤ length o → Puts (positionsText position 0) at o o at
   unfolding positionsText
   no-position = none-put at o
 

@@ -17,7 +17,7 @@ use Rattle.decimals.specs.Decimals.{decimal, signedDecimal}
 
 -- a space and a number, a minus sign before a negative one
 unfoldable pub valueText : Bool → ℕ → List ℕ
-valueText negative n = (bytes " ") ++ signedDecimal negative n
+valueText negative n = bytes " " ++ signedDecimal negative n
 
 -- the same of an amount
 abbrev pub amountText : ℤ → List ℕ
@@ -25,7 +25,7 @@ amountText z = valueText (ltZ z (pos 0)) (natAbs z)
 
 -- a word and a number as a line
 unfoldable pub lineText : List ℕ → Bool → ℕ → List ℕ
-lineText word negative n = word ++ (valueText negative n ++ (bytes "\n"))
+lineText word negative n = word ++ (valueText negative n ++ bytes "\n")
 
 -- ── the refusal ──
 
@@ -39,21 +39,13 @@ valuesText t =
     carriedText (ltb 0 (t .count)) (t .first)
     ++ (carriedText (ltb 1 (t .count)) (t .second) ++ (carriedText (ltb 2 (t .count)) (t .third) ++ carriedText (ltb 3 (t .count)) (t .fourth)))
 
--- `refused`
-abbrev pub refusedWord : List ℕ
-refusedWord = bytes "refused"
-
--- ` at line`
-abbrev pub lineWord : List ℕ
-lineWord = bytes " at line"
-
 -- `refused NUMBER at line L`
 unfoldable pub placeText : ℕ → ℕ → List ℕ
-placeText number line = refusedWord ++ (valueText false number ++ (lineWord ++ valueText false line))
+placeText number line = bytes "refused" ++ (valueText false number ++ (bytes " at line" ++ valueText false line))
 
 -- that with the values as a line
 unfoldable pub refusalText : Told → ℕ → List ℕ
-refusalText t line = placeText (t .number) line ++ (valuesText t ++ (bytes "\n"))
+refusalText t line = placeText (t .number) line ++ (valuesText t ++ bytes "\n")
 
 -- the refusal, if there is one: 0 is none
 unfoldable pub refusedText : Told → ℕ → List ℕ
@@ -69,7 +61,7 @@ isAllZero p = eqb (natAbs (p .quantity .value)) 0 && (eqb (p .average) 0 && eqb 
 unfoldable pub positionText : ℕ → Position → List ℕ
 positionText symbol p =
     decimal symbol
-    ++ (amountText (p .quantity .value) ++ (valueText false (p .average) ++ (amountText (p .realized .value) ++ (bytes "\n"))))
+    ++ (amountText (p .quantity .value) ++ (valueText false (p .average) ++ (amountText (p .realized .value) ++ bytes "\n")))
 
 -- that, unless all of it is 0
 unfoldable pub heldText : ℕ → Position → List ℕ
@@ -82,26 +74,14 @@ positionsText position (suc n) = positionsText position n ++ heldText n (positio
 
 -- ── the day ──
 
--- `taken`
-abbrev pub takenWord : List ℕ
-takenWord = bytes "taken"
-
--- `cash`
-abbrev pub cashWord : List ℕ
-cashWord = bytes "cash"
-
--- `commission`
-abbrev pub commissionWord : List ℕ
-commissionWord = bytes "commission"
-
 -- a word and an amount as a line
 abbrev pub totalText : List ℕ → ℤ → List ℕ
 totalText word z = lineText word (ltZ z (pos 0)) (natAbs z)
 
 -- cash, commission paid, and the positions of the 32 symbols
 unfoldable pub ledgerText : PositionLedger → List ℕ
-ledgerText l = totalText cashWord (l .cash .value) ++ (totalText commissionWord (l .commission .value) ++ positionsText (positionAt l) 32)
+ledgerText l = totalText (bytes "cash") (l .cash .value) ++ (totalText (bytes "commission") (l .commission .value) ++ positionsText (positionAt l) 32)
 
 -- the fills taken, the refusal that ended them with the line of its fill, and the ledger
 unfoldable pub dayText : ℕ → Told → ℕ → PositionLedger → List ℕ
-dayText taken t line l = lineText takenWord false taken ++ (refusedText t line ++ ledgerText l)
+dayText taken t line l = lineText (bytes "taken") false taken ++ (refusedText t line ++ ledgerText l)

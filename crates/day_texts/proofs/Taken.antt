@@ -12,15 +12,15 @@ use lib.Seq.{length-sets, take-suc-set}
 use Rattle.amount.specs.declared.Amount.{Amount}
 use Rattle.types.proofs.Booleans.{by}
 use Rattle.holding.specs.declared.Fill.{Fill}
-use Rattle.day.specs.Numbers.{firstFills, fillsBy}
+use Rattle.day.specs.Numbers.{firstFills, fillsBy, fillNumbers}
 use Rattle.day_lines.specs.declared.Said.{Said}
 use Rattle.day_lines.specs.declared.Said.the-variants as L
 use Rattle.day_lines.specs.Words.{spoken, words}
 use Rattle.day_lines.specs.Lines.{said}
 use Rattle.day_lines.proofs.Fits.{Small, SmallIn, said-small}
-use Rattle.day_keeping.specs.Keeping.{Kept, spoilt, with, fillNumbers, lineTaken, lineEnded}
+use Rattle.day_keeping.specs.Inner.Keeping.{Kept, spoilt, with, lineTaken, lineEnded}
 use Rattle.day_texts.specs.Texts.{Read, unopened, day, noDay, andLine, readKept}
-use Rattle.day_texts.proofs.Numbers.{fills-more, fills-count}
+use Rattle.day_texts.proofs.Numbers.{kept-more, kept-count}
 
 -- what is kept, as the lines leave it
 pub record Stands (k : Kept) : Type 0 where
@@ -53,14 +53,14 @@ module _ (k : Kept) (w : Stands k) (g : k .day .good ≡ true) where
 
   fill-read : (f : Fill) → Small f → readKept (lineTaken (L.Fill f) k) ≡ andLine (readKept k) (k .day .line) (L.Fill f)
   fill-read f s =
-      let n : length (fillsBy (take (5 * k .day .fills) (k .numbers))) ≡ k .day .fills = fills-count (k .numbers) (k .day .fills) (omega (arith, w .fills, w .numbers)) in
+      let n : length (fillsBy (take (5 * k .day .fills) (k .numbers))) ≡ k .day .fills = kept-count (k .numbers) (k .day .fills) (omega (arith, w .fills, w .numbers)) in
       by (eqb (k .day .opened) 0)
       (λ t. rw (t, g))
       (λ t.
       by (ltb (k .day .fills) 100000)
       (λ r.
       let h : k .day .fills < 100000 = ltb-true (k .day .fills) 100000 r in
-      let m = fills-more (k .numbers) (k .day .fills) f (omega (arith, w .numbers)) s in
+      let m = kept-more (k .numbers) (k .day .fills) f (omega (arith, w .numbers)) s in
       rw (t, r, g, t, n, r, m, lines-more h))
       (λ r. rw (t, g, n, r)))
 

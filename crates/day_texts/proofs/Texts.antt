@@ -11,8 +11,8 @@ use Rattle.types.proofs.Booleans.{by}
 use Rattle.day_lines.specs.Lines.{said}
 use Rattle.day_lines.specs.declared.Said.{Said}
 use Rattle.day_lines.specs.declared.Said.the-variants as L
-use Rattle.day_keeping.specs.Keeping.{Kept, kept, spoilt, with, lineEnded}
-use Rattle.day_collecting.specs.Collecting.{lastEnded, oneHeld, textTaken, unread}
+use Rattle.day_keeping.specs.Inner.Keeping.{Kept, kept, spoilt, with, lineEnded}
+use Rattle.day_collecting.specs.Inner.Collecting.{lastEnded, oneHeld, textTaken, unread}
 use Rattle.day_collecting.proofs.Texts.{stopped, byte-ends, byte-held, byte-past, at-end}
 use Rattle.day_texts.specs.Texts.{linesOf, lineSays, Read, unopened, day, noDay, andLine, readOn, readKept, KeptAsSaid}
 use Rattle.day_texts.proofs.Cuts.{alone, behind, behind-none, feed-ends, byte-kept, longer}

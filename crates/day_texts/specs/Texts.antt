@@ -9,20 +9,20 @@ use Rattle.amount.specs.declared.Amount.{Amount}
 use Rattle.holding.specs.declared.Fill.{Fill}
 use Rattle.day.specs.Numbers.{fillsBy}
 use Rattle.day_lines.specs.Words.{putBefore}
-use Rattle.day_lines.specs.Lines.{said}
+use Rattle.day_lines.specs.Lines.{maxLine, maxFills, said}
 use Rattle.day_lines.specs.declared.Said.{Said}
 use Rattle.day_lines.specs.declared.Said.the-variants as L
-use Rattle.day_keeping.specs.Keeping.{Kept}
-use Rattle.day_collecting.specs.Collecting.{KeptOf}
+use Rattle.day_keeping.specs.Inner.Keeping.{Kept}
+use Rattle.day_collecting.specs.Inner.Collecting.{KeptOf}
 
 -- the lines of a text, their line feeds left out: behind the last line feed there is one more, if there is a byte
 unfoldable pub linesOf : List ℕ → List (List ℕ)
 linesOf [] = []
 linesOf (b ∷ bs) = cond (eqb b 10) ([] ∷ linesOf bs) (putBefore b (linesOf bs))
 
--- what a line says; one of more than 4,096 bytes is none of a day
+-- what a line says; one of too many bytes is none of a day
 abbrev pub lineSays : List ℕ → Said
-lineSays line = cond (leb (length line) 4096) (said line) L.Other
+lineSays line = cond (leb (length line) maxLine) (said line) L.Other
 
 -- a day: its opening cash and the line of that, its fills and the line of each
 pub record Day : Type 0 where
@@ -37,10 +37,10 @@ pub data Read : Type 0 where
   day : Day → Read
   noDay : Read
 
--- a day with one fill more; there are at most 100,000
+-- a day with one fill more, if there may be one
 abbrev pub withFill : Day → ℕ → Fill → Read
 withFill d n f =
-    cond (ltb (length (d .fills)) 100000)
+    cond (ltb (length (d .fills)) maxFills)
     (day (record { cash = d .cash; opened = d .opened; fills = d .fills ++ (f ∷ []); lines = d .lines ++ (n ∷ []) }))
     noDay
 

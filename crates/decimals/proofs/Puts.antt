@@ -1,5 +1,5 @@
 -- Laws of bytes put into memory: a piece behind a piece is one piece, and the length is kept.
-use Prim.Native.Nat.{ℕ, zero, suc, _+_, _≤_, _<_}
+use Prim.Native.Nat.{ℕ, suc, _+_, _≤_, _<_}
 use mathlib.Core.Path.{_≡_, refl, sym, ap, _∙_}
 use mathlib.Core.List.{List, [], _∷_, _++_}
 use native.Mathlib.Omega.{arith}
@@ -21,6 +21,7 @@ then xs ys o p q at m n a b =
     record {
       stored = rw (b .stored, a .stored, a .behind) (sym (sets-append xs ys o at));
       behind = omega (arith, a .behind, b .behind, length-append xs ys);
+      fits = b .fits;
     }
 
 -- the length is kept
@@ -36,11 +37,12 @@ put-turn xs o out at i h e =
     rw (add-one i, n) (sym (ap (sets out (at + i)) (drop-cons xs i 0 h)) ∙ e)
 
 -- its end: nothing is left
-pub put-end : (xs o out : List ℕ) (at i : ℕ) → i ≤ length xs → length xs ≤ i → sets out (at + i) (drop i xs) ≡ sets o at xs → Puts xs at o out (at + i)
-put-end xs o out at i h l e =
+pub put-end : (xs o out : List ℕ) (at i : ℕ) → i ≤ length xs → length xs ≤ i → at + length xs ≤ length out → sets out (at + i) (drop i xs) ≡ sets o at xs → Puts xs at o out (at + i)
+put-end xs o out at i h l f e =
     record {
       stored = sym (ap (sets out (at + i)) (drop-of-length-le xs l)) ∙ e;
       behind = omega arith;
+      fits = omega arith;
     }
 
 -- the room behind a piece
@@ -77,8 +79,8 @@ owed-put all at o xs left u now n after w p =
       same = kept xs now after u n p ∙ w .same;
     }
 
-pub owed-end : (all : List ℕ) (at : ℕ) (o : List ℕ) (u : ℕ) (now : List ℕ) → Owed all at o [] u now → Puts all at o now u
-owed-end all at o u now w = record { stored = sym (w .stored); behind = omega (arith, w .behind) }
+pub owed-end : (all : List ℕ) (at : ℕ) (o : List ℕ) (u : ℕ) (now : List ℕ) → Owed all at o [] u now → u ≤ length now → Puts all at o now u
+owed-end all at o u now w f = record { stored = sym (w .stored); behind = omega (arith, w .behind); fits = f }
 
 -- where there was room for all, there is for what is left
 pub owed-room : (all : List ℕ) (at : ℕ) (o left : List ℕ) (u : ℕ) (now : List ℕ) → at + length all ≤ length o → Owed all at o left u now → u + length left ≤ length now

@@ -1,13 +1,11 @@
 -- A number in decimal digits, with a sign or without, a pair of numbers as a line, and what putting bytes into memory leaves.
-use Prim.Native.Nat.{ℕ, zero, suc, _+_, _/_, _%_}
+use Prim.Native.Nat.{ℕ, zero, suc, _+_, _/_, _%_, _≤_}
 use mathlib.Core.Bool.{Bool, cond}
 use mathlib.Core.Path.{_≡_}
 use mathlib.Core.List.{List, [], _∷_, _++_}
 use lib.Dec.{ltb}
-use lib.IntN.{ℤ, pos, natAbs}
 use lib.ListN.{length}
 use lib.Seq.{sets}
-use lib.Signed.{ltZ}
 
 -- the character of a digit
 abbrev pub digit : ℕ → ℕ
@@ -26,15 +24,12 @@ decimal n = lastDigits 20 n
 unfoldable pub signedDecimal : Bool → ℕ → List ℕ
 signedDecimal negative n = cond negative (45 ∷ decimal n) (decimal n)
 
--- a whole number in decimal, a minus sign before one below zero
-abbrev pub wholeDecimal : ℤ → List ℕ
-wholeDecimal z = signedDecimal (ltZ z (pos 0)) (natAbs z)
-
 -- two numbers, a space between them and a line feed after them
 unfoldable pub pair : ℕ → ℕ → List ℕ
 pair a b = decimal a ++ (32 ∷ (decimal b ++ (10 ∷ [])))
 
--- Bytes put at a place: they stand there one after the other, all other places are as they were, and the answer is the place behind them.
+-- Bytes put at a place: they stand there one after the other, all of them, all other places are as they were, and the answer is the place behind them.
 pub record Puts (bytes : List ℕ) (at : ℕ) (before after : List ℕ) (next : ℕ) : Type 0 where
   pub stored : after ≡ sets before at bytes
   pub behind : next ≡ at + length bytes
+  pub fits : next ≤ length after

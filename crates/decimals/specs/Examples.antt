@@ -1,9 +1,8 @@
 -- Numbers and pairs as bytes.
-use Prim.Native.Nat.{ℕ}
+use mathlib.Core.Bool.{true, false}
 use mathlib.Core.Path.{_≡_, refl}
-use mathlib.Core.List.{List, [], _∷_}
-use lib.IntN.{pos, negℤ}
-use Rattle.decimals.specs.Decimals.{lastDigits, decimal, signedDecimal, wholeDecimal, pair}
+use mathlib.Core.List.{[], _∷_}
+use Rattle.decimals.specs.Decimals.{lastDigits, decimal, signedDecimal, pair}
 
 -- "0", "10", "907"
 small : (decimal 0 ≡ 48 ∷ []) × (decimal 10 ≡ 49 ∷ 48 ∷ []) × (decimal 907 ≡ 57 ∷ 48 ∷ 55 ∷ [])
@@ -19,8 +18,8 @@ largest = refl
 
 -- "-2", "27", "0"; the least i64: "-9223372036854775808"
 signed :
-    (wholeDecimal (negℤ (pos 2)) ≡ 45 ∷ 50 ∷ []) × (wholeDecimal (pos 27) ≡ 50 ∷ 55 ∷ []) × (wholeDecimal (negℤ (pos 0)) ≡ 48 ∷ [])
-    × (wholeDecimal (negℤ (pos 9223372036854775808)) ≡
+    (signedDecimal true 2 ≡ 45 ∷ 50 ∷ []) × (signedDecimal false 27 ≡ 50 ∷ 55 ∷ []) × (signedDecimal false 0 ≡ 48 ∷ [])
+    × (signedDecimal true 9223372036854775808 ≡
     45 ∷ 57 ∷ 50 ∷ 50 ∷ 51 ∷ 51 ∷ 55 ∷ 50 ∷ 48 ∷ 51 ∷ 54 ∷ 56 ∷ 53 ∷ 52 ∷ 55 ∷ 55 ∷ 53 ∷ 56 ∷ 48 ∷ 56 ∷ [])
 unfolding signedDecimal lastDigits
 signed = (refl, refl, refl, refl)

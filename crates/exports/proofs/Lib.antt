@@ -1,2 +1,3 @@
 pub mod Worths
 pub mod Frames
+pub mod Fills

@@ -1,16 +1,18 @@
 -- The ledger for Rust and C: its changes and its values, by numbers.
 use Prim.Native.Nat.{ℕ}
 use mathlib.Core.Bool.{cond}
+use mathlib.Core.Path.{_≡_}
 use mathlib.Core.List.{List, [], _∷_}
 use lib.Dec.{leb}
-use lib.IntN.{ℤ}
+use lib.IntN.{ℤ, pos}
 use lib.ListN.{getD}
 use Rattle.amount.specs.Whole.{amount}
 use Rattle.types.specs.Replies.{Reply, refused, ifRecord}
-use Rattle.types.specs.InOrder.{Run}
+use Rattle.types.specs.Runs.{Run, ifDone}
 use Rattle.holding.specs.declared.Fill.{Fill}
 use Rattle.position.specs.declared.PositionLedger.{PositionLedger}
 use Rattle.position.specs.Ledger.{Change, isLedger, booked}
+use Rattle.day.specs.Numbers.{dayBookedBy}
 use Rattle.valuation.specs.Values.{unrealizedTotal, liquidation, netExposure, neutral}
 use Rattle.told.specs.declared.Told.{Told}
 use Rattle.told.specs.Numbers.{tell, nothing, oneAmount, yesOrNo}
@@ -34,6 +36,14 @@ fillOf symbol side quantity price commission =
 unfoldable pub bookedBy : PositionLedger → ℕ → ℕ → ℕ → ℕ → ℤ → Change
 bookedBy l symbol side quantity price commission =
     cond (leb side 1) (booked l (fillOf symbol side quantity price commission)) (record { ledger = l; reply = unnamed l })
+
+-- One fill by its numbers and a list of that one are booked alike.
+abbrev pub OneAlike : Type 0
+OneAlike =
+    (l : PositionLedger) (symbol side quantity price : ℕ) (commission : ℤ) →
+    let one = bookedBy l symbol side quantity price commission in
+    dayBookedBy l (pos symbol ∷ pos side ∷ pos quantity ∷ pos price ∷ commission ∷ [])
+    ≡ record { stands = one .ledger; taken = ifDone (one .reply) 1 0; reply = one .reply }
 
 -- a ledger, how many fills it took, and an answer in numbers
 pub record LedgerDay : Type 0 where

@@ -28,7 +28,7 @@ pub struct TotalsTold {
     pub told: Told,
 }
 
-// The totals beside a ledger's rows after a day's fills, how many of them were taken, and the answer: 0, or the refusal of the first that was not.
+// The totals beside a ledger's rows after a day's fills, how many of them were taken, and the answer: 0, or the refusal that ended them.
 #[repr(C)]
 pub struct DayTold {
     pub totals: Totals,

@@ -7,8 +7,9 @@ ghost use lib.ListN.{length};
 use chunks::keep;
 use chunks::whole_lines;
 use deltas::Counts;
+use inputs::open_named;
+use inputs::write_out;
 use libc::STDIN_FILENO;
-use libc::STDOUT_FILENO;
 use printing::Heard;
 use printing::ends::put_end;
 use printing::take_lines;
@@ -28,18 +29,6 @@ fn output() -> [u8; 1572864]
     ensures { λ r. ⌜ 1572864 ≡ length r ⌝ }
 {
     [0; 1572864]
-}
-
-// Writes what is printed, or says why it cannot.
-fn write_out(out: &[u8], used: usize) -> bool {
-    if used > out.len() {
-        return false;
-    }
-    let good = io::write_all(STDOUT_FILENO, &out[..used]);
-    if !good {
-        os::fail(&[b'w', b'r', b'i', b't', b'e']);
-    }
-    good
 }
 
 // Reads into the buffer after what is held.
@@ -190,20 +179,14 @@ fn take_feed(fd: i32, name: &[u8]) {
 
 pub fn take() {
     if os::arg_count() < 2 {
-        take_feed(STDIN_FILENO, &[b's', b't', b'd', b'i', b'n']);
+        take_feed(STDIN_FILENO, b"stdin");
         return;
     }
     let mut path = io::buffer();
-    let n = os::arg(1, &mut path);
-    if os::errno() != 0 {
-        os::fail(&[b'p', b'a', b't', b'h']);
-        return;
+    let named = open_named(&mut path);
+    let end = named.length;
+    if named.fd >= 0 {
+        take_feed(named.fd, &path[..end]);
+        libc::close(named.fd);
     }
-    let fd = os::open_read(&path[..n]);
-    if fd < 0 {
-        os::fail(&path[..n]);
-        return;
-    }
-    take_feed(fd, &path[..n]);
-    libc::close(fd);
 }

@@ -1,16 +1,18 @@
 -- Laws of numbers read digit by digit: a number past its limit stays there, and a digit read leaves the rest to be read.
 use Prim.Native.Nat.{ℕ, _+_, _-_, _*_, _≤_, _<_}
 use mathlib.Core.Bool.{false}
+use mathlib.Core.Option.{Option, none, some}
 use mathlib.Core.Path.{_≡_, refl, sym, _∙_}
 use mathlib.Core.List.{List, [], _∷_}
 use native.Mathlib.Omega.{arith}
 use native.Mathlib.Numerals.{add-one}
-use borrow.Author.Tests.{le-leb, lt-leb, leb-false}
+use borrow.Author.Tests.{le-leb, lt-leb, leb-true, leb-false}
 use lib.Dec.{eqb, leb}
 use lib.ListN.{length, take, drop, getD, length-drop, drop-of-length-le}
 use lib.Seq.{drop-cons, take-all}
 use Rattle.types.proofs.Booleans.{by}
-use Rattle.numerals.specs.Numerals.{isDigit, further, digitsOn, bounded, numeralUpTo, withDigit}
+use Rattle.numerals.specs.Numerals.{isDigit, further, digitsOn, numeral, bounded, numeralUpTo, withDigit}
+use Rattle.numerals.specs.Inner.Sizes.{sizeOf}
 use Rattle.numerals.specs.declared.Number.the-variants as N
 
 -- ── one digit ──
@@ -105,3 +107,13 @@ rest-all w = take-all (length w - 1) (drop 1 w) (omega (arith, length-drop 1 w))
 pub no-minus : (w : List ℕ) → length w ≤ 0 → eqb (getD w 0 0) 45 ≡ false
 no-minus [] h = refl
 no-minus (b ∷ bs) h = absurd (omega arith)
+
+-- ── sizes ──
+
+-- a number that is read is within its limit
+pub read-fits : (limit : ℕ) (w : List ℕ) → sizeOf (numeralUpTo limit w) ≤ limit
+read-fits limit w = go (numeral w)
+  where
+    go : (n : Option ℕ) → sizeOf (bounded limit n) ≤ limit
+    go none = omega arith
+    go (some n) = by (leb n limit) (λ t. rw t (leb-true n limit t)) (λ t. rw t (omega arith))

@@ -20,7 +20,7 @@ isDigit b = leb 48 b && leb b 57
 abbrev pub further : ℕ → ℕ → ℕ
 further n b = n * 10 + (b - 48)
 
--- the number of the digits of n and of those that follow; none where a byte is no digit
+-- the number that n and the digits behind it make; none where a byte is no digit
 unfoldable pub digitsOn : ℕ → List ℕ → Option ℕ
 digitsOn n [] = some n
 digitsOn n (b ∷ bs) = cond (isDigit b) (digitsOn (further n b) bs) none

@@ -40,6 +40,7 @@ fn with_digit(n: u64, byte: u8, limit: u64) -> Number
     Number::Other
 }
 
+// The number that a word is, up to a limit.
 pub fn read_number(word: &[u8], limit: u64) -> Number
     requires { ⌜ 9 ≤ limit ⌝ }
     ensures { λ r. ⌜ (r ≡ numeralUpTo limit (now (word .entry))) × (sizeOf r ≤ limit) ⌝ }
@@ -90,6 +91,7 @@ fn of_negative(n: Number) -> Signed
     }
 }
 
+// The number that a word is, a minus sign before its digits or none.
 pub fn read_signed(word: &[u8]) -> Signed
     ensures { λ r. ⌜ r ≡ signedOf (now (word .entry)) ⌝ }
 {

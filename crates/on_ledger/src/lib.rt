@@ -61,7 +61,7 @@ fn fill_after(line: &[u8], index: usize) -> Fill {
 }
 
 // Four fills in one call, over a lent list: how many were taken, and the cash.
-fn booked(ledger: PositionLedger, line: &[u8]) -> PositionLedger {
+fn book_four(ledger: PositionLedger, line: &[u8]) -> PositionLedger {
     let day = day::apply_four(
         ledger,
         [
@@ -130,7 +130,7 @@ pub fn step(ledger: PositionLedger, prices: [u32; 32], kind: u64, line: &[u8]) -
         11 => worth(ledger, &prices, line),
         19 => return with_position(ledger, line),
         20 => shown(ledger, small(line, 1)),
-        28 => return booked(ledger, line),
+        28 => return book_four(ledger, line),
         _ => output::put(b"?"),
     }
     ledger

@@ -52,4 +52,4 @@ unfolding heard turns printed counted
 at-end text r₀ k₀ u₀ o₀ at r k u o w h =
     let none : drop at text ≡ [] = drop-of-length-le text h in
     let v = rw none at w in
-    (sym (v .ends), sym (v .counts), owed-end _ u₀ o₀ u o (v .owed))
+    (sym (v .ends), sym (v .counts), owed-end _ u₀ o₀ u o (v .owed) (omega (arith, v .room)))

@@ -50,8 +50,8 @@ module _ (word p q : List ℕ) (n i : ℕ) (lp : length p ≡ 128) (lq : length 
         Owed all at o (sideText word (drop (i + 1) (levels (rows p q n)))) m after
     side-put h m after x = owed-put all at o _ _ u now m after (rw (side-next h) at w) x
 
-    pub side-end : n ≤ i → Puts all at o now u
-    side-end h = owed-end all at o u now (rw (side-done h) at w)
+    pub side-end : n ≤ i → at + length all ≤ length o → Puts all at o now u
+    side-end h r = let v = rw (side-done h) at w in owed-end all at o u now v (omega (arith, owed-room all at o [] u now r v))
 
 -- a count above 128 shows the 128 places
 pub same-levels : (p q : List ℕ) (n m : ℕ) → length p ≡ 128 → length q ≡ 128 → m ≡ cond (leb n 128) n 128 → levels (rows p q m) ≡ levels (rows p q n)

@@ -13,7 +13,7 @@ use denote.Ref.{now}
 use denote.Triple.Entry.{Args, Res}
 use denote.Triple.Clauses.{AtExit}
 use Rattle.types.specs.Answers.{replyOfOutcome}
-use Rattle.types.specs.InOrder.{Run}
+use Rattle.types.specs.Runs.{Run}
 use Rattle.types.proofs.Once.{one-outcome}
 use Rattle.position.specs.Lent.{totalsIn}
 use Rattle.position.specs.declared.PositionLedger.{PositionLedger}

@@ -72,8 +72,8 @@ use Rattle.day.proofs.apply_fills.Code as code
 use Rattle.day.proofs.apply_fills.Code.Mir as text
 
 -- what `getD` would give past the end, where nothing is asked
-abbrev no-fill : Fill
-no-fill = record { symbol = 0; side = Bid; quantity = 0; price = 0; commission = amount (pos 0) }
+abbrev blank : Fill
+blank = record { symbol = 0; side = Bid; quantity = 0; price = 0; commission = amount (pos 0) }
 
 abbrev stayed : Stays (this.ended .signature .params) (this.ended .kept)
 stayed = (stay-none (λ _. Led.the-row) yes, (stay-none-slice (0 ∷ []) tt (plain (λ _. Fil.the-row)) yes, tt))
@@ -120,11 +120,11 @@ module _ {M : Type 1} (𝓤 : URA M) (H : Heap 𝓤) (A : Atoms 𝓤) (W : Given
         -- a turn that books one fill
         books :
             (i : ℕ) (k : DayBooked) (X : SProp 𝓤) → Is Day.the-row k (dayVal k ∷ []) → i < many g →
-            ((r : DayBooked) → Booked k (getD (g .fills) i no-fill) r → Is Day.the-row r (dayVal r ∷ []) → ent 𝓤 (⋆ 𝓤 H A (At g p (i + 1) r)) X) →
+            ((r : DayBooked) → Booked k (getD (g .fills) i blank) r → Is Day.the-row r (dayVal r ∷ []) → ent 𝓤 (⋆ 𝓤 H A (At g p (i + 1) r)) X) →
             ent 𝓤 (⋆ 𝓤 H A (At g p i k)) (Turn X)
         unfolding afterTurn
         books i k X isK small then =
-            let f = getD (g .fills) i no-fill in
+            let f = getD (g .fills) i blank in
             let fits : i * 24 < 2 ^ 64 = omega (arith, room .1) in
             let fits′ : i + 1 < 2 ^ 64 = omega (arith, room .0) in
             qed W (At g p i k) ∵ exec ! C Λ (Locals p) text.turn-1 (anyQ (afterTurn 𝓤 H X Left)) $
@@ -138,9 +138,9 @@ module _ {M : Type 1} (𝓤 : URA M) (H : Heap 𝓤) (A : Atoms 𝓤) (W : Given
             rewrite ! 6 (λ (at : ℕ). ‵ (fat fullShare tyPtr (p .l₇) 0 (vptr (g .block) at))) (sym (place-is 24 (g .place) i)) refl $
             -- the slice is opened, the fill is copied to _8, and the slice is shut
             looks-slice ! tt Fil.the-row (Is Fil.the-row) (shows 𝓤 H A Fil.the-row) (S.vals Fil.the-type Fil′.the-laws) (S.tells Fil.the-type Fil′.the-laws) (S.copy Fil.the-type Fil′.the-copy 𝓤 H A W) (g .fills) (g .block) (g .place) (λ s.
-            elem-out ! Fil.the-row (Is Fil.the-row) (shows 𝓤 H A Fil.the-row) (S.vals Fil.the-type Fil′.the-laws) (S.tells Fil.the-type Fil′.the-laws) s (g .fills) i no-fill (g .block) (g .place) small (λ isF.
+            elem-out ! Fil.the-row (Is Fil.the-row) (shows 𝓤 H A Fil.the-row) (S.vals Fil.the-type Fil′.the-laws) (S.tells Fil.the-type Fil′.the-laws) s (g .fills) i blank (g .block) (g .place) small (λ isF.
             assigns ! (of-opd ! (load ! (from ! (hop ! (look ! 9 refl) (stop !))) (look-raw ! 0 refl))) (from ! (stop !)) (init ! 10 refl (S.lawful Fil.the-type Fil′.the-laws 𝓤 H A W .typed f _ isF .0)) $
-            elem-back ! Fil.the-row s (g .fills) i no-fill (fillVal f ∷ []) (g .block) (g .place) small $ shuts-slice ! tt Fil.the-row s (g .fills) (g .block) (g .place) $
+            elem-back ! Fil.the-row s (g .fills) i blank (fillVal f ∷ []) (g .block) (g .place) small $ shuts-slice ! tt Fil.the-row s (g .fills) (g .block) (g .place) $
             -- it is booked, and the day that comes back lands in _3
             use0 W (raw (Next .pre (to-next 𝓤 H A W at-mem run k f))) (next-asks 𝓤 H A W at-mem run k f isK isF) $
             calls-at ! fm Next known-next (to-next 𝓤 H A W at-mem run k f) (and-then ! (load ! (from ! (stop !)) (look ! 3 refl)) (and-then ! (load ! (from ! (stop !)) (look ! 8 refl)) (no-more !))) (λ v.
@@ -176,7 +176,7 @@ module _ {M : Type 1} (𝓤 : URA M) (H : Heap 𝓤) (A : Atoms 𝓤) (W : Given
             (λ (small : i < many g).
             books i k (Below 𝓤 H A g p t) (f .typed) small (λ r e is.
             lower 𝓤 H A g p t (many g - (i + 1)) (i + 1) r (omega (arith, f .left))
-            (record { passed = omega arith; left = refl; comes = rw e (all-next (dayOf k) (g .fills) i no-fill small) ∙ f .comes; typed = is })))
+            (record { passed = omega arith; left = refl; comes = rw e (all-next (dayOf k) (g .fills) i blank small) ∙ f .comes; typed = is })))
             (eq-or-lt-of-le (f .passed))
 
         turns : (t : ℕ) → ent 𝓤 (Inv 𝓤 H A g p t) (Turn (Below 𝓤 H A g p t))

@@ -2,7 +2,7 @@
 use Prim.Native.Nat.{ℕ, _+_, _%_, _^_}
 use mathlib.Core.Path.{ap}
 use borrow.Author.Needs.{needs}
-use Rattle.types.specs.InOrder.{Run}
+use Rattle.types.specs.Runs.{Run}
 use Rattle.position.specs.Ledger.{Change}
 use Rattle.position.specs.declared.PositionLedger.{PositionLedger}
 use Rattle.day.specs.Inner.Walk.{oneIfTaken, nextOf}

@@ -2,7 +2,7 @@
 use Prim.Native.Nat.{ℕ, _+_, _%_, _^_}
 use mathlib.Core.List.{List, [], _∷_}
 use Rattle.types.specs.Replies.{Reply, done, ifRecord}
-use Rattle.types.specs.InOrder.{Run, ended, ifDone}
+use Rattle.types.specs.Runs.{Run, ended, ifDone}
 use Rattle.holding.specs.declared.Fill.{Fill}
 use Rattle.position.specs.declared.PositionLedger.{PositionLedger}
 use Rattle.position.specs.Ledger.{isLedger}

@@ -8,8 +8,8 @@ use Rattle.position.specs.Ledger.{isMoney, fresh}
 use Rattle.decimals.specs.Decimals.{Puts}
 use Rattle.day.specs.Numbers.{dayBookedBy}
 use Rattle.day_printing.specs.Booked.{refusedText}
-use Rattle.day_keeping.specs.Keeping.{Kept}
-use Rattle.day_collecting.specs.Collecting.{KeptOf}
+use Rattle.day_keeping.specs.Inner.Keeping.{Kept}
+use Rattle.day_collecting.specs.Inner.Collecting.{KeptOf}
 use Rattle.day_booking.specs.Days.{runText, textPrinted}
 
 -- what is printed of an opening cash and its line, of the numbers of fills, five each, and of their lines

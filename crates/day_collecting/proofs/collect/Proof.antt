@@ -6,8 +6,8 @@ use mathlib.Core.List.{[]}
 use native.Mathlib.Omega.{arith}
 use borrow.Author.Needs.{needs}
 use lib.ListN.{length}
-use Rattle.day_keeping.specs.Keeping.{kept}
-use Rattle.day_collecting.specs.Collecting.{unread, heldIn, Within, Took}
+use Rattle.day_keeping.specs.Inner.Keeping.{kept}
+use Rattle.day_collecting.specs.Inner.Collecting.{unread, heldIn, Within, Took}
 use Rattle.day_collecting.proofs.Texts.{took-none, took-then}
 use Rattle.day_collecting.proofs.collect.Statement.{statement}
 use Rattle.day_collecting.proofs.collect.Tie as tie

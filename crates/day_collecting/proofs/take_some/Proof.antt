@@ -24,7 +24,7 @@ returns-2 : tie.Need-returns-2
 returns-2 c =
     let s = c .before .before .before .before .before .before .before .before .before .before .before .before .before .before .before in
     let e = c .take-last .ensures in
-    (e .0, λ g. took-end 65536 _ _ _ _ (e .1) (e .2 (s .pre .1)))
+    (e .0, λ g. took-end 65536 _ _ _ _ (e .1) (e .2))
 
 returns-3 : tie.Need-returns-3
 returns-3 c =

@@ -5,7 +5,8 @@ use native.Mathlib.Omega.{arith}
 use borrow.Author.Needs.{needs}
 use lib.ListN.{length}
 use Rattle.decimals.proofs.Puts.{then}
-use Rattle.day_printing.specs.Booked.{takenWord, dayText}
+use Rattle.types.specs.Quoted.{bytes}
+use Rattle.day_printing.specs.Booked.{dayText}
 use Rattle.day_printing.proofs.Texts.{line-short, line-room, refused-room}
 use Rattle.day_printing.proofs.put_day.Statement.{statement}
 use Rattle.day_printing.proofs.put_day.Tie as tie
@@ -14,7 +15,7 @@ use Rattle.day_printing.proofs.put_day.Tie as tie
 behind-taken : (c : tie.After-put-line) → c .put-line .result + 3900 ≤ length (c .put-line .last .0)
 behind-taken c =
     let s = c .before .before .before .before .before .before in
-    line-room takenWord false (s .args .day .taken) 3900 (c .put-line .ensures) (omega (arith, s .pre))
+    line-room (bytes "taken") false (s .args .day .taken) 3900 (c .put-line .ensures) (omega (arith, s .pre))
 
 returns : tie.Need-returns
 unfolding dayText
@@ -31,7 +32,7 @@ put-day-spec =
     (λ c. search needs)
     (λ c κs.
     let s = c .before .before .before .before .before in
-    omega (arith, s .pre, line-short takenWord false (s .args .day .taken)))
+    omega (arith, s .pre, line-short (bytes "taken") false (s .args .day .taken)))
     (λ c κs. omega (arith, behind-taken (c .before .before .before)))
     (λ c κs.
     let r = c .before .before .before in

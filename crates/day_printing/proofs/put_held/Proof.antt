@@ -1,5 +1,6 @@
 -- `put_held` meets its contract: nothing where all is 0, else the position.
 use mathlib.Core.Path.{sym, _∙_}
+use native.Mathlib.Omega.{arith}
 use borrow.Author.Needs.{needs}
 use Rattle.day_printing.proofs.Texts.{none-put, is-held, not-held}
 use Rattle.day_printing.proofs.put_held.Statement.{statement}
@@ -12,7 +13,7 @@ put-held-spec =
     (λ c κs. search needs)
     (λ c.
     let a = c .before .before .before .args in
-    rw (not-held (a .symbol) (a .position) (sym (c .before .is-all-zero .ensures) ∙ c .if1 .taken)) (none-put (a .at) (a .out .now)))
+    rw (not-held (a .symbol) (a .position) (sym (c .before .is-all-zero .ensures) ∙ c .if1 .taken)) (none-put (a .at) (a .out .now) (omega (arith, c .before .before .before .pre))))
     (λ c κs.
     let e = c .before in
     let s = e .before .before .before in

@@ -4,7 +4,8 @@ use native.Mathlib.Omega.{arith}
 use borrow.Author.Needs.{needs}
 use lib.ListN.{length}
 use Rattle.decimals.proofs.Puts.{then}
-use Rattle.day_printing.specs.Booked.{cashWord, commissionWord, ledgerText}
+use Rattle.types.specs.Quoted.{bytes}
+use Rattle.day_printing.specs.Booked.{ledgerText}
 use Rattle.day_printing.proofs.Texts.{total-short, line-room}
 use Rattle.day_printing.proofs.put_ledger.Statement.{statement}
 use Rattle.day_printing.proofs.put_ledger.Tie as tie
@@ -13,7 +14,7 @@ use Rattle.day_printing.proofs.put_ledger.Tie as tie
 behind-cash : (c : tie.After-put-total) → c .put-total .result + 2970 ≤ length (c .put-total .last .0)
 behind-cash c =
     let s = c .before .before .before .before in
-    line-room cashWord _ _ 2970 (c .put-total .ensures) (omega (arith, s .pre))
+    line-room (bytes "cash") _ _ 2970 (c .put-total .ensures) (omega (arith, s .pre))
 
 returns : tie.Need-returns
 unfolding ledgerText
@@ -28,14 +29,14 @@ put-ledger-spec =
     tie.close
     (tie.spec
     (λ c. search needs)
-    (λ c κs. let s = c .before .before .before in omega (arith, s .pre, total-short cashWord (s .args .totals .cash .value)))
+    (λ c κs. let s = c .before .before .before in omega (arith, s .pre, total-short (bytes "cash") (s .args .totals .cash .value)))
     (λ c. search needs)
     (λ c κs.
     let k = c .before .before .before .before in
     let s = k .before .before .before .before in
-    omega (arith, behind-cash k, total-short commissionWord (s .args .totals .commission .value)))
+    omega (arith, behind-cash k, total-short (bytes "commission") (s .args .totals .commission .value)))
     (λ c κs.
     let m = c .before .before .before in
-    line-room commissionWord _ _ 2880 (m .put-total2 .ensures) (omega (arith, behind-cash (m .before .before .before .before .before))))
+    line-room (bytes "commission") _ _ 2880 (m .put-total2 .ensures) (omega (arith, behind-cash (m .before .before .before .before .before))))
     (λ c. search needs)
     returns)

@@ -24,7 +24,10 @@ put-positions-spec =
     (tie.spec
     Inv-loop
     μ-loop
-    (λ c. let a = c .before .args in (omega arith, no-position (positionOf (a .quantities .now) (a .averages .now) (a .realized .now)) (a .at) (a .out .now)))
+    (λ c.
+    let s = c .before in
+    let a = s .args in
+    (omega arith, no-position (positionOf (a .quantities .now) (a .averages .now) (a .realized .now)) (a .at) (a .out .now) (omega (arith, s .pre))))
     (λ c κs. search needs)
     (λ c κs.
     let p = c .before .at in

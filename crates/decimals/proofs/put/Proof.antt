@@ -36,4 +36,4 @@ put-spec =
     (λ c.
     let l = c .before .loop in
     let a = c .before .before .args in
-    put-end (a .text .now) (a .out .now) (l .out) (a .at) (l .i) (l .inv .0) (omega arith) (l .inv .2)))
+    put-end (a .text .now) (a .out .now) (l .out) (a .at) (l .i) (l .inv .0) (omega arith) (omega (arith, l .inv .1)) (l .inv .2)))

@@ -1,10 +1,9 @@
 -- `decimals::put_number` meets its contract: what io wrote is the decimal, and it is put.
-use Prim.Native.Nat.{ℕ, _+_, _≤_}
 use native.Mathlib.Omega.{arith}
 use mathlib.Core.Path.{_≡_}
 use borrow.Author.Needs.{needs}
-use lib.ListN.{length, take}
-use Rattle.decimals.specs.Decimals.{decimal, Puts}
+use lib.ListN.{take}
+use Rattle.decimals.specs.Decimals.{decimal}
 use Rattle.decimals.proofs.Digits.{io-decimal}
 use Rattle.decimals.proofs.put_number.Statement.{statement}
 use Rattle.decimals.proofs.put_number.Tie as tie

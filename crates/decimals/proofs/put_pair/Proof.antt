@@ -5,7 +5,7 @@ use native.Mathlib.Omega.{arith}
 use borrow.Author.Needs.{needs}
 use denote.Ref.{now}
 use lib.ListN.{length}
-use Rattle.decimals.specs.Decimals.{decimal, pair, Puts}
+use Rattle.decimals.specs.Decimals.{decimal, pair}
 use Rattle.decimals.proofs.Digits.{pair-length}
 use Rattle.decimals.proofs.Puts.{then, room}
 use Rattle.decimals.proofs.put_pair.Statement.{statement}

@@ -9,8 +9,8 @@ use borrow.Author.Needs.{needs}
 use lib.ListN.{length, drop}
 use Rattle.types.specs.Replies.{numberOf, valuesOf}
 use Rattle.types.specs.Answers.{replyOfOutcome}
-use Rattle.types.specs.InOrder.{counting}
-use Rattle.types.proofs.InOrders.{counting-none}
+use Rattle.types.specs.Runs.{counting}
+use Rattle.types.proofs.Runs.{counting-none}
 use Rattle.position.specs.Ledger.{Change, isLedger, booked}
 use Rattle.position.specs.Lent.{ledgerAt}
 use Rattle.day.specs.Day.{bookedInOrder}

@@ -3,14 +3,14 @@ use mathlib.Core.Path.{_≡_, sym, _∙_}
 use native.Mathlib.Omega.{arith}
 use borrow.Author.Needs.{needs}
 use mathlib.Core.Bool.{true}
-use Rattle.day.specs.Numbers.{makeFill, fillBy}
+use Rattle.day.specs.Numbers.{areFill, fillBy}
 use Rattle.day.proofs.Numbers.{Fitting, fitting}
 use Rattle.day.proofs.rows.fill_by.Statement.{statement}
 use Rattle.day.proofs.rows.fill_by.Tie as tie
 
 -- the test is passed
-passed : (c : tie.Then1) → let a = c .before .before .args in makeFill (a .symbol .value) (a .side .value) (a .quantity .value) (a .price .value) ≡ true
-passed c = sym (c .before .make-fill .ensures) ∙ c .if1 .taken
+passed : (c : tie.Then1) → let a = c .before .before .args in areFill (a .symbol .value) (a .side .value) (a .quantity .value) (a .price .value) ≡ true
+passed c = sym (c .before .are-fill .ensures) ∙ c .if1 .taken
 
 -- so the numbers fit
 fit : (c : tie.Then1) → let a = c .before .before .args in Fitting (a .symbol .value) (a .quantity .value) (a .price .value)
@@ -24,7 +24,7 @@ returns c =
 
 returns-2 : tie.Need-returns-2
 unfolding fillBy
-returns-2 c = rw (sym (c .before .make-fill .ensures) ∙ c .if1 .left)
+returns-2 c = rw (sym (c .before .are-fill .ensures) ∙ c .if1 .left)
 
 pub fill-by-spec : {M : Type 1} → statement M
 fill-by-spec =

@@ -4,8 +4,8 @@ use native.Mathlib.Omega.{arith}
 use borrow.Author.Needs.{needs}
 use lib.Seq.{length-take-le}
 use Rattle.day_lines.specs.Lines.{said}
-use Rattle.day_keeping.specs.Keeping.{Kept, kept}
-use Rattle.day_collecting.specs.Collecting.{heldIn}
+use Rattle.day_keeping.specs.Inner.Keeping.{Kept, kept}
+use Rattle.day_collecting.specs.Inner.Collecting.{heldIn}
 use Rattle.day_keeping.proofs.Lines.{few-fills, line-ended}
 use Rattle.day_collecting.proofs.bytes.end_line.Statement.{statement}
 use Rattle.day_collecting.proofs.bytes.end_line.Tie as tie

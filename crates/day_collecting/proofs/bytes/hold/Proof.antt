@@ -4,8 +4,8 @@ use native.Mathlib.Omega.{arith}
 use borrow.Author.Needs.{needs}
 use lib.ListN.{length}
 use lib.Seq.{length-take-le}
-use Rattle.day_keeping.specs.Keeping.{kept}
-use Rattle.day_collecting.specs.Collecting.{heldIn}
+use Rattle.day_keeping.specs.Inner.Keeping.{kept}
+use Rattle.day_collecting.specs.Inner.Collecting.{heldIn}
 use Rattle.day_collecting.proofs.Texts.{byte-held, byte-past, stored-held}
 use Rattle.day_collecting.proofs.bytes.hold.Statement.{statement}
 use Rattle.day_collecting.proofs.bytes.hold.Tie as tie

@@ -3,8 +3,8 @@ use Prim.Native.Nat.{ℕ}
 use mathlib.Core.Path.{ap}
 use borrow.Author.Needs.{needs}
 use lib.ListN.{take}
-use Rattle.day_keeping.specs.Keeping.{kept}
-use Rattle.day_collecting.specs.Collecting.{heldIn}
+use Rattle.day_keeping.specs.Inner.Keeping.{kept}
+use Rattle.day_collecting.specs.Inner.Collecting.{heldIn}
 use Rattle.day_collecting.proofs.Texts.{byte-ends}
 use Rattle.day_collecting.proofs.bytes.take_byte.Statement.{statement}
 use Rattle.day_collecting.proofs.bytes.take_byte.Tie as tie

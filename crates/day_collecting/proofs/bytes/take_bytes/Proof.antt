@@ -5,8 +5,8 @@ use mathlib.Core.List.{List, _++_}
 use native.Mathlib.Omega.{arith}
 use borrow.Author.Needs.{needs}
 use lib.ListN.{length, drop}
-use Rattle.day_keeping.specs.Keeping.{kept}
-use Rattle.day_collecting.specs.Collecting.{heldIn, textTaken, Within}
+use Rattle.day_keeping.specs.Inner.Keeping.{kept}
+use Rattle.day_collecting.specs.Inner.Collecting.{heldIn, textTaken, Within}
 use Rattle.day_collecting.proofs.Texts.{one-byte, none-left, none-taken}
 use Rattle.day_collecting.proofs.bytes.take_bytes.Statement.{statement}
 use Rattle.day_collecting.proofs.bytes.take_bytes.Tie as tie

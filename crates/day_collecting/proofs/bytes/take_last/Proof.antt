@@ -5,8 +5,8 @@ use native.Mathlib.Omega.{arith}
 use borrow.Author.Needs.{needs}
 use lib.ListN.{length, take}
 use lib.Seq.{length-take-le}
-use Rattle.day_keeping.specs.Keeping.{kept}
-use Rattle.day_collecting.specs.Collecting.{heldIn}
+use Rattle.day_keeping.specs.Inner.Keeping.{kept}
+use Rattle.day_collecting.specs.Inner.Collecting.{heldIn}
 use Rattle.day_collecting.proofs.Texts.{last-line, no-last-line}
 use Rattle.day_collecting.proofs.bytes.take_last.Statement.{statement}
 use Rattle.day_collecting.proofs.bytes.take_last.Tie as tie
@@ -25,7 +25,7 @@ take-last-spec =
     let n : length (heldIn d l) ≡ d .held = length-take-le (d .held) l (omega (arith, s .pre .0 .held, s .pre .1)) in (
       record { held = e .ensures .0 .held; fills = e .ensures .0 .fills },
       refl,
-      (λ m. last-line (kept d (s .args .numbers .now) (s .args .lines .now)) (heldIn d l) m _ (omega arith) (e .ensures .2)),
+      last-line (kept d (s .args .numbers .now) (s .args .lines .now)) (heldIn d l) (s .pre .2) _ (omega arith) (e .ensures .2),
     ))
     (λ c.
     let s = c .before .before .before in
@@ -34,5 +34,5 @@ take-last-spec =
     let z : d .held ≡ 0 = omega arith in (
       record { held = s .pre .0 .held; fills = s .pre .0 .fills },
       refl,
-      (λ m. no-last-line (kept d (s .args .numbers .now) (s .args .lines .now)) (heldIn d l) m (ap (λ (n : ℕ). take n l) z)),
+      no-last-line (kept d (s .args .numbers .now) (s .args .lines .now)) (heldIn d l) (s .pre .2) (ap (λ (n : ℕ). take n l) z),
     )))

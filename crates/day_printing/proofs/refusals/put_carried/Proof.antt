@@ -1,4 +1,5 @@
 -- `put_carried` meets its contract: the value, or nothing.
+use native.Mathlib.Omega.{arith}
 use borrow.Author.Needs.{needs}
 use Rattle.day_printing.proofs.Texts.{none-put, is-carried, not-carried}
 use Rattle.day_printing.proofs.refusals.put_carried.Statement.{statement}
@@ -15,4 +16,4 @@ put-carried-spec =
     let t = v .before .before in
     let a = t .before .before .args in
     rw (is-carried (a .is) (a .value) (t .if1 .taken)) (v .put-value .ensures))
-    (λ c. let a = c .before .before .args in rw (not-carried (a .is) (a .value) (c .if1 .left)) (none-put (a .at) (a .out .now))))
+    (λ c. let a = c .before .before .args in rw (not-carried (a .is) (a .value) (c .if1 .left)) (none-put (a .at) (a .out .now) (omega (arith, c .before .before .pre)))))

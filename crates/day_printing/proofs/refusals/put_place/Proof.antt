@@ -5,30 +5,31 @@ use mathlib.Core.List.{_++_}
 use borrow.Author.Needs.{needs}
 use lib.ListN.{length}
 use Rattle.decimals.proofs.Puts.{then, front-room, rest-room}
-use Rattle.day_printing.specs.Booked.{valueText, refusedWord, lineWord, placeText}
+use Rattle.types.specs.Quoted.{bytes}
+use Rattle.day_printing.specs.Booked.{valueText, placeText}
 use Rattle.day_printing.proofs.refusals.put_place.Statement.{statement}
 use Rattle.day_printing.proofs.refusals.put_place.Tie as tie
 
 -- the room behind the first word and behind the number
 behind-word :
     (c : tie.After-put) → let a = c .before .before .before .before .args in
-    c .put .result + length (valueText false (a .number) ++ (lineWord ++ valueText false (a .line))) ≤ length (c .put .last .0)
+    c .put .result + length (valueText false (a .number) ++ ((bytes " at line") ++ valueText false (a .line))) ≤ length (c .put .last .0)
 unfolding placeText
 behind-word c =
     let s = c .before .before .before .before in
-    rest-room (valueText false (s .args .number) ++ (lineWord ++ valueText false (s .args .line))) (c .put .ensures) (s .pre)
+    rest-room (valueText false (s .args .number) ++ ((bytes " at line") ++ valueText false (s .args .line))) (c .put .ensures) (s .pre)
 
 behind-number :
-    (c : tie.After-put-value) → c .put-value .result + length (lineWord ++ valueText false (c .before .before .before .before .before .before .before .before .args .line)) ≤ length (c .put-value .last .0)
+    (c : tie.After-put-value) → c .put-value .result + length ((bytes " at line") ++ valueText false (c .before .before .before .before .before .before .before .before .args .line)) ≤ length (c .put-value .last .0)
 behind-number c =
     let w = c .before .before .before .before in
-    rest-room (lineWord ++ valueText false (w .before .before .before .before .args .line)) (c .put-value .ensures) (behind-word w)
+    rest-room ((bytes " at line") ++ valueText false (w .before .before .before .before .args .line)) (c .put-value .ensures) (behind-word w)
 
 put-requires : tie.Need-put-requires
 unfolding placeText
 put-requires c κs =
     let s = c .before .before .before in
-    front-room refusedWord (valueText false (s .args .number) ++ (lineWord ++ valueText false (s .args .line))) (s .args .out .now) (s .args .at) (s .pre)
+    front-room (bytes "refused") (valueText false (s .args .number) ++ ((bytes " at line") ++ valueText false (s .args .line))) (s .args .out .now) (s .args .at) (s .pre)
 
 returns : tie.Need-returns
 unfolding placeText
@@ -49,12 +50,12 @@ put-place-spec =
     (λ c κs.
     let w = c .before .before .before in
     let a = w .before .before .before .before .args in
-    front-room (valueText false (a .number)) (lineWord ++ valueText false (a .line)) (w .put .last .0) (w .put .result) (behind-word w))
+    front-room (valueText false (a .number)) ((bytes " at line") ++ valueText false (a .line)) (w .put .last .0) (w .put .result) (behind-word w))
     (λ c. search needs)
     (λ c κs.
     let n = c .before .before .before .before in
     let a = n .before .before .before .before .before .before .before .before .args in
-    front-room lineWord (valueText false (a .line)) (n .put-value .last .0) (n .put-value .result) (behind-number n))
+    front-room (bytes " at line") (valueText false (a .line)) (n .put-value .last .0) (n .put-value .result) (behind-number n))
     (λ c κs.
     let w = c .before .before .before in
     let n = w .before .before .before .before .before in

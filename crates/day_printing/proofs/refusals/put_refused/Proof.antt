@@ -12,7 +12,7 @@ pub put-refused-spec : {M : Type 1} → statement M
 put-refused-spec =
     tie.close
     (tie.spec
-    (λ c. let a = c .before .before .before .args in rw (not-refused (a .told) (a .line) (c .if1 .taken)) (none-put (a .at) (a .out .now)))
+    (λ c. let a = c .before .before .before .args in rw (not-refused (a .told) (a .line) (c .if1 .taken)) (none-put (a .at) (a .out .now) (omega (arith, c .before .before .before .pre))))
     (λ c κs.
     let s = c .before .before .before .before in
     let t = s .args .told in

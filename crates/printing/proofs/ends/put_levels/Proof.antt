@@ -56,4 +56,4 @@ put-levels-spec =
     let s = c .before .before .before .before in
     let a = s .args in
     side-end (a .word .now) (a .prices .now) (a .quantities .now) (a .count) (l .i) (s .pre .0) (s .pre .1) (s .pre .2)
-    _ (a .at) (a .out .now) (l .next) (l .out) (l .inv .1) (omega arith)))
+    _ (a .at) (a .out .now) (l .next) (l .out) (l .inv .1) (omega arith) (s .pre .3)))

@@ -1,10 +1,10 @@
--- `rows::make_fill`: the four tests together.
+-- `rows::are_fill`: the four tests together.
 use borrow.Author.Needs.{needs}
-use Rattle.day.proofs.rows.make_fill.Statement.{statement}
-use Rattle.day.proofs.rows.make_fill.Tie as tie
+use Rattle.day.proofs.rows.are_fill.Statement.{statement}
+use Rattle.day.proofs.rows.are_fill.Tie as tie
 
-pub make-fill-spec : {M : Type 1} → statement M
-make-fill-spec =
+pub are-fill-spec : {M : Type 1} → statement M
+are-fill-spec =
     tie.close
     (tie.spec
     (λ c κs. search needs)

@@ -1,15 +1,15 @@
 -- What is kept of the lines of a day: its opening cash, and its fills as numbers with their lines.
 use Prim.Native.Nat.{ℕ, _+_, _*_}
 use mathlib.Core.Bool.{false, cond}
-use mathlib.Core.List.{List, [], _∷_}
+use mathlib.Core.List.{List}
 use lib.Dec.{eqb, ltb}
-use lib.IntN.{ℤ, pos}
+use lib.IntN.{ℤ}
 use lib.ListN.{set}
 use lib.Seq.{sets}
 use Rattle.amount.specs.declared.Amount.{Amount}
-use Rattle.types.specs.Named.{sideNumber}
 use Rattle.holding.specs.declared.Fill.{Fill}
-use Rattle.day_lines.specs.Lines.{said}
+use Rattle.day.specs.Numbers.{fillNumbers}
+use Rattle.day_lines.specs.Lines.{maxFills, said}
 use Rattle.day_lines.specs.declared.Said.{Said}
 use Rattle.day_lines.specs.declared.Said.the-variants as L
 use Rattle.day_keeping.specs.declared.Collected.{Collected}
@@ -37,10 +37,6 @@ cashTaken cash d =
     (record { line = d .line; held = d .held; opened = d .line; cash = cash; fills = d .fills; more = d .more; good = d .good })
     (spoilt d)
 
--- the five numbers of a fill: symbol, side (0 a bid, 1 an ask), quantity, price, commission
-abbrev pub fillNumbers : Fill → List ℤ
-fillNumbers f = pos (f .symbol) ∷ pos (sideNumber (f .side)) ∷ pos (f .quantity) ∷ pos (f .price) ∷ f .commission .value ∷ []
-
 -- one fill more is kept
 abbrev pub oneFill : Collected → Collected
 oneFill d = record { line = d .line; held = d .held; opened = d .opened; cash = d .cash; fills = d .fills + 1; more = d .more; good = d .good }
@@ -52,7 +48,7 @@ with k d = record { day = d; numbers = k .numbers; lines = k .lines }
 -- a fill and its line behind those that are kept, while there is room
 abbrev pub fillKept : Fill → Kept → Kept
 fillKept f k =
-    cond (ltb (k .day .fills) 100000)
+    cond (ltb (k .day .fills) maxFills)
     (record {
       day = oneFill (k .day);
       numbers = sets (k .numbers) (5 * k .day .fills) (fillNumbers f);
@@ -67,7 +63,7 @@ lineTaken (L.Cash cash) k = with k (cashTaken cash (k .day))
 lineTaken (L.Fill f) k = cond (eqb (k .day .opened) 0) (with k (spoilt (k .day))) (fillKept f k)
 lineTaken L.Other k = with k (spoilt (k .day))
 
--- the next line begins: after the largest u64 lines have that number
+-- the next line begins; lines behind that of the largest u64 have its number too
 abbrev pub nextLine : Collected → Collected
 nextLine d = record { line = cond (ltb (d .line) 18446744073709551615) (d .line + 1) (d .line); held = 0; opened = d .opened; cash = d .cash; fills = d .fills; more = d .more; good = d .good }
 

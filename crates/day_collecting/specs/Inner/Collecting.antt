@@ -7,8 +7,9 @@ use lib.Dec.{eqb, ltb}
 use lib.IntN.{ℤ, pos}
 use lib.ListN.{length, take}
 use Rattle.amount.specs.Whole.{amount}
+use Rattle.day_lines.specs.Lines.{maxLine}
 use Rattle.day_keeping.specs.declared.Collected.{Collected}
-use Rattle.day_keeping.specs.Keeping.{Kept, kept, spoilt, with, lineEnded}
+use Rattle.day_keeping.specs.Inner.Keeping.{Kept, kept, spoilt, with, lineEnded}
 
 -- nothing more is read
 abbrev pub finished : Collected → Collected
@@ -23,14 +24,14 @@ lastEnded (b ∷ bs) k = let m = lineEnded (b ∷ bs) k in with m (finished (m .
 abbrev pub oneHeld : Collected → Collected
 oneHeld d = record { line = d .line; held = d .held + 1; opened = d .opened; cash = d .cash; fills = d .fills; more = d .more; good = d .good }
 
--- the bytes of a text, one by one, behind those of a line that are held: a line feed ends the line, and a line has 4,096 bytes at most
+-- the bytes of a text, one by one, behind those of a line that are held: a line feed ends the line, and a line has so many bytes at most
 unfoldable pub textTaken : Kept → List ℕ → List ℕ → Kept
 textTaken k held [] = cond (k .day .more) (lastEnded held k) k
 textTaken k held (b ∷ bs) =
     cond (k .day .more)
     (cond (eqb b 10)
     (textTaken (lineEnded held k) [] bs)
-    (cond (ltb (length held) 4096) (textTaken (with k (oneHeld (k .day))) (held ++ (b ∷ [])) bs) (with k (spoilt (k .day)))))
+    (cond (ltb (length held) maxLine) (textTaken (with k (oneHeld (k .day))) (held ++ (b ∷ [])) bs) (with k (spoilt (k .day)))))
     k
 
 -- bytes were taken: with whatever follows, what is kept comes to the same

@@ -1,18 +1,32 @@
--- What a run of changes means (specs/InOrder.antt): those that were taken, the one that was not, and one run after another.
+-- What a run of changes means (specs/Runs.antt): those that were taken, the one that was not, and one run after another.
 use Prim.Native.Nat.{ℕ, zero, suc, _+_, _<_}
 use mathlib.Core.Path.{_≡_, refl, sym, ap, _∙_}
-use mathlib.Core.List.{List, [], _∷_, _++_}
-use native.Mathlib.Nat.{zero-add, suc-add}
+use mathlib.Core.List.{List, [], _∷_, _++_, map}
+use native.Mathlib.Nat.{zero-add, suc-add, add-zero, add-suc}
+use native.Mathlib.Numerals.{add-one}
 use native.Mathlib.Omega.{arith}
 use lib.IntN.{ℤ}
 use lib.ListN.{length, take, getD}
 use Rattle.types.specs.Replies.{Reply, done, refused}
-use Rattle.types.specs.InOrder.{Run, ended, oneMore, counting, ifDone, andThen, inOrder, afterAll}
+use Rattle.types.specs.Runs.{Run, ended, oneMore, counting, ifDone, andThen, untilRefused}
 use Rattle.types.proofs.Once.{never}
+
+-- what stands after each was offered, taken or not
+unfoldable pub afterAll : {S X : Type 0} → (S → X → S) → S → List X → S
+afterAll after s [] = s
+afterAll after s (x ∷ xs) = afterAll after (after s x) xs
 
 -- none more is the same run
 pub counting-none : {S : Type 0} (r : Run S) → counting 0 r ≡ r
 counting-none r = rw (zero-add (r .taken))
+
+-- one more of so many
+pub counting-more : {S : Type 0} (n : ℕ) (r : Run S) → counting n (oneMore r) ≡ counting (n + 1) r
+counting-more n r = rw (add-one, add-suc, suc-add)
+
+-- none more of so many
+pub counting-ended : {S : Type 0} (n : ℕ) (s : S) (a : Reply (Unit {0})) → counting n (ended s a) ≡ record { stands = s; taken = n; reply = a }
+counting-ended n s a = rw (add-zero n)
 
 -- one more, counted before or after what follows
 more-then : {S : Type 0} (r : Run S) (next : S → Run S) → oneMore (andThen r next) ≡ andThen (oneMore r) next
@@ -24,7 +38,7 @@ more-then r next = by (r .reply)
 
 module _ {S X : Type 0} (after : S → X → S) (reply : S → X → Reply (Unit {0})) where
   abbrev run : S → List X → Run S
-  run = inOrder after reply
+  run = untilRefused after reply
 
   -- what stands after those that were taken
   abbrev Stands : S → List X → Run S → Type 0
@@ -72,28 +86,28 @@ module _ {S X : Type 0} (after : S → X → S) (reply : S → X → Reply (Unit
     first-next d (refused n vs) e h m us f = (omega arith, e ∙ f)
 
   pub run-stands : (s : S) (xs : List X) → Stands s xs (run s xs)
-  unfolding inOrder afterAll
+  unfolding untilRefused afterAll
   run-stands s [] = refl
   run-stands s (x ∷ xs) = stands-next s x xs (reply s x) (run-stands (after s x) xs)
 
   pub run-each : (d : X) (s : S) (xs : List X) → Each d s xs (run s xs)
-  unfolding inOrder
+  unfolding untilRefused
   run-each d s [] = λ i m. absurd (omega arith)
   run-each d s (x ∷ xs) = each-next s x xs d (reply s x) refl (run-each d (after s x) xs)
 
   pub run-all : (s : S) (xs : List X) → All xs (run s xs)
-  unfolding inOrder
+  unfolding untilRefused
   run-all s [] = λ e. refl
   run-all s (x ∷ xs) = all-next s x xs (reply s x) (run-all (after s x) xs)
 
   pub run-first : (d : X) (s : S) (xs : List X) → First d xs (run s xs)
-  unfolding inOrder
+  unfolding untilRefused
   run-first d s [] = λ n vs e. never (done tt) n vs refl e
   run-first d s (x ∷ xs) = first-next s x xs d (reply s x) refl (run-first d (after s x) xs)
 
   -- what each change that is done keeps, a run keeps
   pub run-keeps : (P : S → Type 0) → ((s : S) (x : X) → P s → reply s x ≡ done tt → P (after s x)) → (s : S) (xs : List X) → P s → P (run s xs .stands)
-  unfolding inOrder
+  unfolding untilRefused
   run-keeps P keeps s [] p = p
   run-keeps P keeps s (x ∷ xs) p = by (reply s x) refl (run-keeps P keeps (after s x) xs)
     where
@@ -103,7 +117,7 @@ module _ {S X : Type 0} (after : S → X → S) (reply : S → X → Reply (Unit
 
   -- one list behind another: a run, and then the other from what stands, if all were taken
   pub run-append : (s : S) (xs ys : List X) → run s (xs ++ ys) ≡ andThen (run s xs) (λ (t : S). run t ys)
-  unfolding inOrder
+  unfolding untilRefused
   run-append s [] ys = sym (counting-none (run s ys))
   run-append s (x ∷ xs) ys = by (reply s x) (run-append (after s x) xs ys)
     where
@@ -111,3 +125,9 @@ module _ {S X : Type 0} (after : S → X → S) (reply : S → X → Reply (Unit
           → whole s x (xs ++ ys) a ≡ andThen (whole s x xs a) (λ (t : S). run t ys)
       by (done u) h = ap oneMore h ∙ more-then (rest s x xs) (λ (t : S). run t ys)
       by (refused n vs) h = refl
+
+  -- other changes that come to the same make the same run
+  pub run-same : (g : X → X) → ((s : S) (x : X) → (after s (g x) ≡ after s x) × (reply s (g x) ≡ reply s x)) → (s : S) (xs : List X) → run s (map g xs) ≡ run s xs
+  unfolding untilRefused
+  run-same g same s [] = refl
+  run-same g same s (x ∷ xs) = rw (same s x .0, same s x .1, run-same g same (after s x) xs)

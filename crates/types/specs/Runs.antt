@@ -3,7 +3,7 @@ use Prim.Native.Nat.{ℕ, suc, _+_}
 use mathlib.Core.List.{List, [], _∷_}
 use Rattle.types.specs.Replies.{Reply, done, refused}
 
--- what stands after those that were taken, how many they are, and the reply: 0, or the refusal of the first that was not taken
+-- what stands after those that were taken, how many they are, and the reply: 0, or the refusal that ended them
 pub record Run (S : Type 0) : Type 0 where
   pub stands : S
   pub taken : ℕ
@@ -32,11 +32,6 @@ andThen r next = ifDone (r .reply) (counting (r .taken) (next (r .stands))) r
 
 module _ {S X : Type 0} (after : S → X → S) (reply : S → X → Reply (Unit {0})) where
   -- in order: one that is done is counted and goes on with the others, and a refused one ends it with what stood before
-  unfoldable pub inOrder : S → List X → Run S
-  inOrder s [] = ended s (done tt)
-  inOrder s (x ∷ xs) = ifDone (reply s x) (oneMore (inOrder (after s x) xs)) (ended s (reply s x))
-
--- what stands after each was offered, taken or not
-unfoldable pub afterAll : {S X : Type 0} → (S → X → S) → S → List X → S
-afterAll after s [] = s
-afterAll after s (x ∷ xs) = afterAll after (after s x) xs
+  unfoldable pub untilRefused : S → List X → Run S
+  untilRefused s [] = ended s (done tt)
+  untilRefused s (x ∷ xs) = ifDone (reply s x) (oneMore (untilRefused (after s x) xs)) (ended s (reply s x))

@@ -1,0 +1,2 @@
+-- What is kept of the text of a day.
+pub mod Collecting

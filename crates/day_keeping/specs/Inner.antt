@@ -1,0 +1,2 @@
+-- What is kept of the lines of a day.
+pub mod Keeping
