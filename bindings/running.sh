@@ -25,8 +25,55 @@ runner() {
   esac
 }
 
+# Ends the script where FILE, or standard input where none is named, is not there to be read, or standard output is closed. Another standard stream
+# that is closed does not stay so: a pipe of this script would be opened in its place, and whoever reads there would wait for ever.
+find_ends() {
+  { true 3>&2; } || exec 2>/dev/null
+  if ! { true 3<&0; } 2>/dev/null; then
+    [ $# -eq 1 ] || { say "standard input is closed"; exit 1; }
+    exec </dev/null
+  fi
+  if [ $# -eq 1 ]; then
+    if [ ! -e "$1" ]; then say "$1: no such file"; exit 1; fi
+    if [ -d "$1" ]; then say "$1: is a directory"; exit 1; fi
+    if [ ! -r "$1" ]; then say "$1: no permission to read it"; exit 1; fi
+  fi
+  { true 3>&1; } 2>/dev/null || { say "standard output is closed"; exit 1; }
+}
+
+# Says how a program ended that said nothing. Signal 13 ends it where nobody reads any more what it prints: then nobody need be told.
+say_end() {
+  if [ "$1" -le 128 ]; then
+    say "the program ended with status $1 and said nothing"
+  elif [ "$1" -ne 141 ]; then
+    say "the program was ended by signal $(($1 - 128))"
+  fi
+}
+
+# run_in_words yes|no [FILE]: runs what $run has, and ends the script. The program says on standard error what it could not read or write; its own
+# status is 0 then too.
+run_in_words() {
+  local words=$1 status=0 worded=0 errors
+  shift
+  if [ $words = yes ]; then
+    { errors=$("${run[@]}" "$@" 2>&1 1>&3 3>&- | cat) || status=$?; } 3> >(in_words)
+    wait $! || worded=1
+  else
+    { errors=$("${run[@]}" "$@" 2>&1 1>&3 3>&-) || status=$?; } 3>&1
+  fi
+  if [ -n "$errors" ]; then
+    say "$errors"
+    exit 1
+  fi
+  if [ $status -ne 0 ]; then
+    say_end $status
+    exit 1
+  fi
+  exit $worded
+}
+
 run_program() {
-  local name=$1 words=no version=no program run status=0 errors
+  local name=$1 words=no version=no program run
   shift
   while [ $# -gt 0 ]; do
     case $1 in
@@ -44,28 +91,10 @@ run_program() {
     echo "wermazul $(sed -n 's/^version = "\(.*\)"/\1/p' "$SHARED/rust/Cargo.toml")"
     exit 0
   fi
-
-  if [ $# -eq 1 ]; then
-    if [ ! -e "$1" ]; then say "$1: no such file"; exit 1; fi
-    if [ -d "$1" ]; then say "$1: is a directory"; exit 1; fi
-    if [ ! -r "$1" ]; then say "$1: no permission to read it"; exit 1; fi
-  fi
-  { true 3>&1; } 2>/dev/null || { say "standard output is closed"; exit 1; }
+  find_ends "$@"
 
   # WERMAZUL_PROCESSOR asks for the program of another processor than this machine's, for tests.
   program=$("$SHARED/program" "$name" ${WERMAZUL_PROCESSOR:+"$WERMAZUL_PROCESSOR"} </dev/null) || { say "there is no program to run"; exit 1; }
   runner "$program"
-
-  # The program says on standard error what it could not read or write; its own status is 0 then too.
-  if [ $words = yes ]; then
-    { errors=$("${run[@]}" "$@" 2>&1 1>&3 3>&- | cat) || status=$?; } 3> >(in_words)
-    wait $! || status=1
-  else
-    { errors=$("${run[@]}" "$@" 2>&1 1>&3 3>&-) || status=$?; } 3>&1
-  fi
-  if [ -n "$errors" ]; then
-    say "$errors"
-    exit 1
-  fi
-  exit $status
+  run_in_words $words "$@"
 }
