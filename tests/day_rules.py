@@ -1,5 +1,7 @@
-"""A plain second reading of the rules of a day, in exact integers: what the day program is to print, and what it is to say. For tests/days.py."""
+"""A plain second reading of the rules of a day, in exact integers: what the day program is to print, what it is to say, and how the day ends. For
+tests/days.py."""
 import re
+from typing import NamedTuple
 
 FILLS, LINE = 100_000, 4096
 U32, LARGEST, LEAST = 2**32 - 1, 2**63 - 1, -(2**63)
@@ -66,49 +68,68 @@ def moved(position, bought, lots, price, commission):
     return quantity + (lots if bought else -lots), average, realized
 
 
+class Refusal(NamedTuple):
+    number: int
+    values: tuple = ()
+    past: tuple = ()  # of a 9: the totals that would leave their limits, each with the way
+
+
+def past_limits(lots, cash, commission, profit):
+    totals = ("lots", lots, LOTS), ("cash", cash, MONEY), ("commission", commission, MONEY), ("profit", profit, MONEY)
+    return tuple(name + (" above" if total > 0 else " below") for name, total, limit in totals if abs(total) > limit)
+
+
 class Ledger:
     def __init__(self, cash):
         self.cash, self.commission, self.positions = cash, 0, [(0, 0, 0)] * SYMBOLS
 
     def book(self, symbol, bought, lots, price, commission):
-        """None where the fill is taken, else the number and the values of its refusal."""
+        """None where the fill is taken, else its refusal."""
         if symbol >= SYMBOLS or lots > LOTS or not 1 <= price <= PRICE or abs(commission) > COMMISSION:
-            return [2]
+            return Refusal(2)
         need = (lots if bought else -lots) * price + commission
         cash, paid = self.cash - need, self.commission + commission
         if bought and cash < 0:
-            return [8, need, self.cash]
+            return Refusal(8, (need, self.cash))
         position = moved(self.positions[symbol], bought, lots, price, commission)
-        if abs(position[0]) > LOTS or max(abs(cash), abs(paid), abs(position[2])) > MONEY:
-            return [9]
+        past = past_limits(position[0], cash, paid, position[2])
+        if past:
+            return Refusal(9, past=past)
         self.cash, self.commission, self.positions[symbol] = cash, paid, position
         return None
 
 
 def refused(why, line):
-    return " ".join(map(str, ["refused", why[0], "at line", line] + why[1:]))
+    return " ".join(map(str, ["refused", why.number, "at line", line, *why.values]))
 
 
-def printed(data):
-    """What the day program is to print."""
+def booked(data):
+    """What the day program is to print, and how the day ends."""
     (cash, at), fills = read(data)
     if abs(cash) > MONEY:
-        return refused([2], at) + "\n"
-    ledger, taken, rows = Ledger(cash), 0, []
+        return refused(Refusal(2), at) + "\n", "refused 2, opening cash"
+    ledger, taken, rows, ended = Ledger(cash), 0, [], "all taken"
     for one, line in fills:
         why = ledger.book(*one)
         if why:
-            rows = [refused(why, line)]
+            rows, ended = [refused(why, line)], ", ".join([f"refused {why.number}", *why.past])
             break
         taken += 1
     rows = [f"taken {taken}"] + rows + [f"cash {ledger.cash}", f"commission {ledger.commission}"]
     rows += [f"{i} {p[0]} {p[1]} {p[2]}" for i, p in enumerate(ledger.positions) if any(p)]
-    return "\n".join(rows) + "\n"
+    return "\n".join(rows) + "\n", ended
+
+
+class Expected(NamedTuple):
+    printed: bytes
+    said: bytes
+    ended: str
 
 
 def expected(data):
-    """What is printed, and what is said."""
+    """What is printed, what is said, and how the day ends, in few words."""
     try:
-        return printed(data).encode(), b""
+        text, ended = booked(data)
+        return Expected(text.encode(), b"", ended)
     except Malformed as why:
-        return b"", f"{why}\n".encode()
+        return Expected(b"", f"{why}\n".encode(), "said: " + re.sub(r"^line \d+: ", "", str(why)))

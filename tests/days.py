@@ -2,22 +2,30 @@
 """Random days through the day program: days.py [COUNT [SEED]], or days.py --expected FILE.
 
 Each day is an opening cash and fills, written as a person might: remarks, empty lines, blanks of each kind, zeros in front, carriage returns, no last
-line feed. Numbers are small, at the limits of the rules, at the limits of their types, or beyond; most days are then spoilt in some way or other. What
-the program prints, and what it says on standard error, is held against a plain second reading of the rules (day_rules.py), byte for byte; every
-fiftieth day goes through run-day, with its status. Before them comes a day for each limit, and after them one of 100,000 fills and one of one more.
---expected prints what is to be printed of the file's day.
+line feed. Numbers are small, at the limits of the rules, at the limits of their types, or beyond; one day in seven brings a total to its limit, to the
+unit, and half of these go one past it. Two days in five are then spoilt: in a word, a line, a line's length or a byte. What the program prints, and
+what it says on standard error, is held against a plain second reading of the rules (day_rules.py), byte for byte; every fiftieth day goes through
+run-day too, with its status. Before them comes a day for each limit, and days of 100,000 fills and what may follow.
+A day that differs is kept in target/failed.day. A run of 5,000 days, which is the default, or more fails where no random day was refused by one of the
+numbers, or with 9 for one of the totals alone.
+--expected prints what is to be printed of the file's day, or else said.
 """
 import random
-import re
 import subprocess
 import sys
 from pathlib import Path
 
 sys.dont_write_bytecode = True
-from day_rules import COMMISSION, FILLS, LARGEST, LEAST, LINE, LOTS, MONEY, PRICE, U32, expected
+from day_rules import COMMISSION, FILLS, LARGEST, LEAST, LINE, LOTS, MONEY, PRICE, U32, Ledger, expected
 
 ROOT = Path(__file__).resolve().parent.parent
 FAILED = ROOT / "target" / "failed.day"
+DAYS = 5000
+SIDES = {"above": "bid", "below": "ask"}
+# The totals that a fill may take past their limits, either way, and how often a day does; a commission paid takes 4,000 fills.
+HEAVY = {(total, way): 1 if total == "commission" else 2 for total in ("lots", "cash", "commission", "profit") for way in SIDES}
+# How the random days must end, some of them at least: by each refusal, and by a 9 for each total alone.
+NEEDED = ["refused 2", "refused 2, opening cash", "refused 8"] + [f"refused 9, {total} {way}" for total, way in HEAVY]
 
 
 # ── random days ──
@@ -42,16 +50,39 @@ def any_fill(rng, calm):
     return [symbol, rng.choice(["bid", "ask"]), lots, price, commission]
 
 
-def heavy_fills(rng):
-    """Fills that drive one total to its limit: lots, cash, commission, profit."""
-    kind, count = rng.randrange(4), 45
-    if kind == 0:
-        return [[1, rng.choice(["bid", "ask"]), rng.choice([LOTS, LOTS // 2]), 1, 0] for _ in range(6)]
-    if kind == 1:
-        return [[i % 32, "ask", LOTS if i < 32 else 0, PRICE, -COMMISSION] for i in range(count)]
-    if kind == 2:
-        return [[i % 32, "ask", 0, 1, rng.choice([1, -1, -1]) * COMMISSION] for i in range(6000)]
-    return [[5, ["bid", "ask"][i % 2], LOTS, [1, PRICE][i % 2], 0] for i in range(2 * count)]
+def near_limit(rng, total, way):
+    """An opening cash, and fills that bring a total close to its limit: no further from it than one fill can go, and the others far from theirs."""
+    rest, some = rng.randrange(COMMISSION), rng.randrange(4)
+    if total == "lots":
+        return 2 * LOTS, [[1, SIDES[way], rng.randrange(LOTS), 1, 0]]
+    if total == "cash" and way == "above":
+        return MONEY - some * LOTS * PRICE - rest, [[i, "ask", LOTS, PRICE, 0] for i in range(some)]
+    if total == "cash":  # a sale may leave cash below 0, a buy may not
+        return some * COMMISSION + rest - MONEY, [[i, "ask", 0, 1, COMMISSION] for i in range(some)]
+    if total == "commission":
+        cash, each = (MONEY, COMMISSION) if way == "above" else (-MONEY, -COMMISSION)
+        return cash, [[i % 32, "ask", 0, 1, each] for i in range(MONEY // COMMISSION - 1)]
+    low, high = (1, PRICE) if way == "above" else (PRICE, 1)
+    trade = [[1, "bid", LOTS, low, 0], [1, "ask", LOTS, high, 0]]
+    rng.shuffle(trade)
+    if way == "below":
+        return MONEY, trade * 40
+    spent = [[i, "bid", LOTS, PRICE, 0] for i in range(2, 12)]  # else cash would pass its limit first
+    return LOTS, trade * 20 + spent + trade * 20
+
+
+def at_limit(rng):
+    """An opening cash, and fills that bring one total to its limit, to the unit; half the time another follows that goes one past it."""
+    total, way = rng.choices(*zip(*HEAVY.items()))[0]
+    cash, fills = near_limit(rng, total, way)
+    ledger = Ledger(cash)
+    for symbol, side, *numbers in fills:
+        ledger.book(symbol, side == "bid", *numbers)
+    lots, _, profit = ledger.positions[1]
+    now, limit = {"lots": (lots, LOTS), "cash": (ledger.cash, MONEY), "commission": (ledger.commission, MONEY), "profit": (profit, MONEY)}[total]
+    sign = 1 if (total == "commission") == (way == "above") else -1
+    step = lambda by: [1, SIDES[way], by, 1, 0] if total == "lots" else [1, "ask", 0, 1, sign * by]
+    return cash, fills + [step(limit - abs(now))] + [step(1)] * rng.randrange(2)
 
 
 def written(rng, number):
@@ -89,11 +120,10 @@ def day(rng):
     calm, plain = rng.random() < 0.4, rng.random() < 0.3
     count = rng.choice([0, 1, 5, 20, 60, 400])
     cash = rng.choice([0, 1000, 10**6, 10**12]) if calm or rng.random() < 0.9 else signed(rng, MONEY, 2**63)
-    rows = [["cash", cash]]
+    heavy = []
     if rng.random() < 0.15:
-        rows[0][1] = rng.choice([0, 10**18, -(10**18), MONEY])
-        rows += heavy_fills(rng)
-    rows += [any_fill(rng, calm) for _ in range(count)]
+        cash, heavy = at_limit(rng)
+    rows = [["cash", cash]] + heavy + [any_fill(rng, calm) for _ in range(count)]
     if not calm and rng.random() < 0.5:
         at = rng.randrange(len(rows))
         rows[at] = spoilt_words(rng, rows[at])
@@ -135,58 +165,64 @@ def corners():
     yield from ("", "\n", "#", "cash", "cash 7 7", "7", "0 ask 1 1 0", "cash 7\ncash 7", "cash 7\n0 ask 1 1", "cash 7\n0 ask 1 1 0 0", "cash 7\n0 Bid 1 1 0")
 
 
+def full_days():
+    """Days of as many fills as a day may have, and what may follow them, or may not."""
+    fills = "".join(f"{i % 32} bid 1 1 0\n" for i in range(FILLS))
+    for name, more in {
+        "no more": "",
+        "a fill": "1 bid 1 1 0",
+    }.items():
+        yield f"a day of {FILLS} fills and {name}", ("cash 1000000\n" + fills + more).encode()
+
+
 # ── the comparison ──
 
 
-def check(program, data, name):
-    want, said = expected(data)
-    got = subprocess.run([program], input=data, capture_output=True)
-    if (got.stdout, got.stderr) != (want, said):
+def check(command, data, name, wanted):
+    """Holds what is printed and said of a day, and the status, to what is wanted; keeps the day where it differs."""
+    got = subprocess.run([command], input=data, capture_output=True)
+    if (got.stdout, got.stderr, got.returncode) != wanted:
         FAILED.write_bytes(data)
-        sys.exit(f"{name}: the program prints or says something else; the day is in {FAILED}")
-    return want, said
+        sys.exit(f"{name}: {command.name} prints, says or ends with something else; the day is in {FAILED}")
 
 
-def check_run(data, name):
-    want, said = expected(data)
-    got = subprocess.run([ROOT / "run-day"], input=data, capture_output=True)
-    if (got.stdout, got.stderr, got.returncode) != (want, b"run-day: " * bool(said) + said, bool(said)):
-        sys.exit(f"{name}: run-day prints, says or ends with something else")
+class Run:
+    """The days tried so far, counted by how they ended."""
 
+    def __init__(self, program):
+        self.program, self.kinds = program, {}
 
-def kind(want, said):
-    """How a day ended, for the count."""
-    if said:
-        return "said: " + re.sub(r"line \d+: ", "", said.decode().strip())
-    first = re.search(r"^refused (\d+)", want.decode(), re.M)
-    return "refused " + first[1] if first else "all taken"
+    def tried(self, data, name, by_script=False):
+        want = expected(data)
+        check(self.program, data, name, (want.printed, want.said, 0))
+        if by_script:
+            check(ROOT / "run-day", data, name, (want.printed, b"run-day: " * bool(want.said) + want.said, int(bool(want.said))))
+        self.kinds[want.ended] = self.kinds.get(want.ended, 0) + 1
+
+    def told(self):
+        return "; ".join(f"{kind}: {self.kinds[kind]}" for kind in sorted(self.kinds))
 
 
 def main():
     if sys.argv[1:2] == ["--expected"]:
-        sys.stdout.buffer.write(b"".join(expected(Path(sys.argv[2]).read_bytes())))
+        sys.stdout.buffer.write(b"".join(expected(Path(sys.argv[2]).read_bytes())[:2]))
         return
-    count = int(sys.argv[1]) if len(sys.argv) > 1 else 5000
+    count = int(sys.argv[1]) if len(sys.argv) > 1 else DAYS
     seed = int(sys.argv[2]) if len(sys.argv) > 2 else 1
     made = subprocess.run([ROOT / "bindings/program", "day_fills"], stdout=subprocess.PIPE, text=True, check=True)
-    program, rng, kinds = made.stdout.strip(), random.Random(seed), {}
-
-    def tried(data, name):
-        ended = kind(*check(program, data, name))
-        kinds[ended] = kinds.get(ended, 0) + 1
-
+    program, rng = Path(made.stdout.strip()), random.Random(seed)
+    fixed, drawn = Run(program), Run(program)
     for n, text in enumerate(corners()):
-        tried(text.encode(), f"corner {n}")
+        fixed.tried(text.encode("latin-1"), f"corner {n}")
+    for name, data in full_days():
+        fixed.tried(data, name)
+    print(f"{sum(fixed.kinds.values())} days at a corner alike. {fixed.told()}")
     for n in range(count):
-        data = day(rng)
-        tried(data, f"day {n} of seed {seed}")
-        if n % 50 == 0:
-            check_run(data, f"day {n} of seed {seed}")
-    for more in (0, 1):
-        fills = b"".join(b"%d bid 1 1 0\n" % (i % 32) for i in range(FILLS + more))
-        tried(b"cash 1000000\n" + fills, f"a day of {FILLS + more} fills")
-    told = "; ".join(f"{k}: {kinds[k]}" for k in sorted(kinds))
-    print(f"{sum(kinds.values())} days alike. {told}")
+        drawn.tried(day(rng), f"day {n} of seed {seed}", by_script=n % 50 == 0)
+    print(f"{count} random days alike. {drawn.told()}")
+    missing = [kind for kind in NEEDED if kind not in drawn.kinds]
+    if count >= DAYS and missing:
+        sys.exit("no random day ended so: " + "; ".join(missing))
 
 
 if __name__ == "__main__":
