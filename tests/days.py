@@ -5,7 +5,7 @@ Each day is an opening cash and fills, written as a person might: remarks, empty
 line feed. Numbers are small, at the limits of the rules, at the limits of their types, or beyond; one day in seven brings a total to its limit, to the
 unit, and half of these go one past it. Two days in five are then spoilt: in a word, a line, a line's length or a byte. What the program prints, and
 what it says on standard error, is held against a plain second reading of the rules (day_rules.py), byte for byte; every fiftieth day goes through
-run-day too, with its status. Before them comes a day for each limit, and days of 100,000 fills and what may follow.
+run-day too, with its status. Before them comes a day for each limit and for bytes that mean nothing, and days of 100,000 fills and what may follow.
 A day that differs is kept in target/failed.day. A run of 5,000 days, which is the default, or more fails where no random day was refused by one of the
 numbers, or with 9 for one of the totals alone.
 --expected prints what is to be printed of the file's day, or else said.
@@ -147,7 +147,7 @@ def day(rng):
 
 
 def corners():
-    """A day for each limit, of the rules and of the types: at it, and one beyond."""
+    """A day for each limit, of the rules and of the types: at it, and one beyond; and bytes that mean nothing. Each character is a byte."""
     for cash in (0, MONEY, MONEY + 1, -MONEY, -MONEY - 1, LARGEST, LARGEST + 1, LEAST, LEAST - 1):
         yield f"cash {cash}"
     limits = {0: (0, 31, 32, U32, U32 + 1), 2: (0, LOTS, LOTS + 1, U32, U32 + 1), 3: (0, 1, PRICE, PRICE + 1, U32, U32 + 1)}
@@ -162,6 +162,11 @@ def corners():
         yield "cash 7".ljust(length) + "\n0 ask 1 1 0"
         yield "cash 7\n" + "0 ask 1 1 0".ljust(length)
         yield "#".ljust(length, "x") + "\ncash 7"
+    for odd in "\0\v\f\x1c\x7f\x80\x85\xa0\xff":  # no blank, and no part of a word; in a remark anything may stand
+        yield from (odd, f"{odd}cash 7", f"cash{odd}7", f"ca{odd}sh 7", f"cash 7{odd}", f"cash 7 {odd} ")
+        for line in (odd, f"0{odd}ask 1 1 0", f"0 ask 1 1 {odd}0", f"0 ask 1 1 0{odd}", f"0 ask 1 1 0 {odd}", f"0 ask 1 1 0 #{odd}\n#{odd}"):
+            yield f"cash 7\n{line}\n"
+    yield "\xef\xbb\xbfcash 7\n"
     yield from ("", "\n", "#", "cash", "cash 7 7", "7", "0 ask 1 1 0", "cash 7\ncash 7", "cash 7\n0 ask 1 1", "cash 7\n0 ask 1 1 0 0", "cash 7\n0 Bid 1 1 0")
 
 
@@ -170,7 +175,11 @@ def full_days():
     fills = "".join(f"{i % 32} bid 1 1 0\n" for i in range(FILLS))
     for name, more in {
         "no more": "",
+        "an empty line": "\n",
+        "a remark": "# a remark",
+        "a malformed line": "1 bid 1 1\n",
         "a fill": "1 bid 1 1 0",
+        "a remark, a fill": "#\n1 bid 1 1 0\n",
     }.items():
         yield f"a day of {FILLS} fills and {name}", ("cash 1000000\n" + fills + more).encode()
 
