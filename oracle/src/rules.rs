@@ -178,21 +178,21 @@ pub fn book(ledger: &mut PositionLedger, fill: &Fill) -> Booking {
     booking
 }
 
-/// A day's fills: what each that is taken does, and the number that the next is refused with.
+/// A day's fills: what each that is taken does, the number that the next is refused with, and the ledger that they leave.
 pub struct Plan {
     pub bookings: Vec<Booking>,
     pub refusal: Option<u64>,
+    pub left: PositionLedger,
 }
 
 pub fn plan(ledger: &PositionLedger, fills: &[Fill]) -> Plan {
-    let mut ledger = ledger.clone();
-    let mut bookings = Vec::new();
+    let mut plan = Plan { bookings: Vec::new(), refusal: None, left: ledger.clone() };
     for fill in fills {
-        let refusal = refusal(&ledger, fill);
-        if refusal.is_some() {
-            return Plan { bookings, refusal };
+        plan.refusal = refusal(&plan.left, fill);
+        if plan.refusal.is_some() {
+            break;
         }
-        bookings.push(book(&mut ledger, fill));
+        plan.bookings.push(book(&mut plan.left, fill));
     }
-    Plan { bookings, refusal: None }
+    plan
 }

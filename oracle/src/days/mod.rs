@@ -9,6 +9,8 @@
 //! - rounded average, small turnover: after the first such fill of a symbol, ours (the day cut there) and the original's position have the
 //!   class's form. From then on that symbol's average and profit part, and all else stays equal. At the end, its realized profit less the
 //!   cost of its lots is apart by just what each rounding cut off and what each small turnover left at the old average.
+//!
+//! Whether or not a symbol has parted, our whole record at the end must be the one that the plain rules leave.
 pub mod made;
 
 use crate::forms::{Fill, SYMBOLS};
@@ -140,6 +142,7 @@ impl<'a> Day<'a> {
             && self.formed
             && accounts.totals_same()
             && rules::is_ledger(&accounts.ours)
+            && accounts.ours == self.plan.left
             && positions.all(|(symbol, held)| self.position_agrees(symbol, &held, position(symbol)))
     }
 }
@@ -165,7 +168,7 @@ impl Accounts {
         let classes = day.classes();
         let told = || format!("{:?} on {}: ours {} now {}", fills, described(&start), ours, described(&self.ours));
         tally.count_day(&ours, day.agrees(self, &ours, &theirs), &classes, || {
-            format!("{}, theirs {} now {:?}", told(), theirs, self.theirs)
+            format!("{}, by the plain rules {}, theirs {} now {:?}", told(), described(&day.plan.left), theirs, self.theirs)
         });
         let mut single = start.clone();
         let ended = singly(&mut single, fills);
