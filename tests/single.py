@@ -2,7 +2,8 @@
 """Says which public calls have no theorem in crate single: each `pub fn` of a library that is no inner crate, by its path in `.. .Reads.Learnt`.
 Of a call that is lent memory to write in, the theorem must be OneWith or OnePart.
 
-The text alone is read; `rt check single` proves what stands there. The exceptions are those that docs/PROMISES.md lists.
+The text alone is read; `rt check single` proves what stands there. An exception is a call of one crate, with why it is one; an exception that
+names no such call, or one that has its theorem, is a fault too.
 """
 import re
 import sys
@@ -10,12 +11,11 @@ from pathlib import Path
 
 ROOT = Path(__file__).resolve().parent.parent
 EXCEPTIONS = {
-    "lent::apply_delta": "specs/Lent writes its promise out",
-    "day::apply_fills": "specs/Days writes its promise out",
-    "rows::row_of": "inner: hands a row on",
-    "rows::apply_to_book": "inner: asks that the rows are known to make a book",
-    "rows::apply_to_ledger": "inner: asks that the rows are known to make a ledger",
-    "feeding::take": "docs/PROMISES.md, Exceptions",
+    ("lent", "apply_delta"): "specs/Lent writes its promise out",
+    ("day", "apply_fills"): "specs/Days writes its promise out",
+    ("orderbook", "rows.row_of"): "inner: hands a row on",
+    ("orderbook", "rows.apply_to_book"): "inner: asks that the rows are known to make a book",
+    ("position", "rows.apply_to_ledger"): "inner: asks that the rows are known to make a ledger",
 }
 
 
@@ -56,19 +56,22 @@ def theorems():
 
 
 def main():
-    said = theorems()
+    said, seen = theorems(), set()
     faults, count = [], 0
     for crate, source in crates():
         for module, call, lent in calls(source):
             count += 1
             whole = f"{module}.{call}".strip(".")
-            if f"{module or crate}::{call}" in EXCEPTIONS:
-                continue
+            seen.add((crate, whole))
             kind = said.get((crate, whole))
-            if kind is None:
+            if (crate, whole) in EXCEPTIONS:
+                if kind is not None:
+                    faults.append(f"{crate}: {whole} is an exception, and has a theorem in crate single")
+            elif kind is None:
                 faults.append(f"{crate}: {whole} has no theorem in crate single")
             elif lent and kind == "One":
                 faults.append(f"{crate}: {whole} is lent memory, and its theorem does not speak of it")
+    faults += [f"{crate}: {whole} is an exception, and no public call" for crate, whole in EXCEPTIONS if (crate, whole) not in seen]
     print(f"{count} public calls, {len(faults)} faults, the {len(EXCEPTIONS)} exceptions aside")
     sys.exit("\n".join(faults) if faults else 0)
 
