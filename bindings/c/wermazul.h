@@ -14,7 +14,8 @@
      32 bits for listings and prices, numbers of 64 bits for fills, bytes for lines. All places of the length are there.
    - A pointer is aligned as C aligns what it points to: 4 bytes for numbers of 32 bits, 8 bytes for numbers of 64 bits. A record that is declared
      is aligned right.
-   - What a call writes to, a row or a buffer, overlaps nothing else that it is lent, and no other thread uses it meanwhile.
+   - What a call writes to, a row or a buffer, overlaps nothing else that it is lent, and no other thread uses it meanwhile. What it only reads,
+     the fills of a list among it, no other thread changes meanwhile.
    wermazul_matches() compares the version with the archive's, and the sizes of the records that wermazul_layout tells; nothing compares the
    functions' own types. */
 #ifndef WERMAZUL_H
@@ -99,13 +100,13 @@ typedef struct { wermazul_totals totals; uint64_t taken; wermazul_told told; } w
 #define WERMAZUL_LEDGER_ROWS(ledger) (ledger).quantities, (ledger).averages, (ledger).realized
 
 /* A fill of a list: five numbers of 64 bits in this order. Each goes over whole, so that one outside its limits is refused however large it is,
-   where an argument of 32 bits is cut by the caller. WERMAZUL_FILLS lends an array of so many fills as its numbers. There may be none, and the
-   pointer is not null then either; that of an empty std::vector may be. */
+   where an argument of 32 bits is cut by the caller. WERMAZUL_FILLS lends an array of so many fills as its numbers; `count` is a size_t. There may
+   be none, and the pointer is not null then either; that of an empty std::vector may be. Where a fill was refused, `fills + taken` is that one. */
 typedef struct { int64_t symbol, side, quantity, price, commission; } wermazul_fill;
 #define WERMAZUL_FILLS(fills, count) &(fills)->symbol, (count) * (sizeof(wermazul_fill) / sizeof(int64_t))
 
 /* A list's fills are taken in order until one is refused: `told` is 0, or the refusal of the first that was not taken. 1 comes at once, and 2
-   where the length is no multiple of five; numbers that make no fill are 2 in their turn.
+   where the length is no multiple of five: no fill is refused then, and `taken` is 0. Numbers that make no fill are 2 in their turn.
    Prices are 32 numbers, 0 for none. A worth: 0 unrealized_pnl_total, 1 net_liquidation_value, 2 net_market_exposure, 3 delta_neutral_check. */
 wermazul_ledger_told wermazul_ledger(int64_t cash);
 bool wermazul_is_ledger(

@@ -40,12 +40,13 @@ impl Fill {
     }
 }
 
-/// Why a list of fills was not taken to its end. The fills before the refused one are booked, and it changed nothing.
+/// Why a list of fills was not taken to its end. The fills before the refused one are booked, and it changed nothing. A record that is no
+/// ledger is refused before any fill is.
 #[derive(Clone, Copy, Debug, PartialEq, Eq)]
 pub struct FillsError {
-    /// How many fills were taken: the place of the refused one in the list, from 0.
+    /// How many fills were taken: where a fill was refused, its place in the list, from 0; 0 where the record was.
     pub taken: usize,
-    /// Its refusal; 1 if the record is no ledger.
+    /// The refusal: that of the fill, or 1 if the record is no ledger.
     pub error: Error,
 }
 
