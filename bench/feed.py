@@ -3,15 +3,14 @@
 
 bindings/program makes the program, for this machine's processor. The lines are random Sets and Removes at 100 prices a side, all of them taken.
 """
-import platform
 import random
 import subprocess
 import sys
-import time
-from pathlib import Path
 
-ROOT = Path(__file__).resolve().parent.parent
-FEED, COUNT = ROOT / "target/bench/million.feed", 1_000_000
+sys.dont_write_bytecode = True
+from timing import WORK, program, timed
+
+FEED, COUNT = WORK / "million.feed", 1_000_000
 
 
 def line(body):
@@ -20,7 +19,7 @@ def line(body):
 
 def write_feed():
     rng = random.Random(1)
-    FEED.parent.mkdir(parents=True, exist_ok=True)
+    WORK.mkdir(parents=True, exist_ok=True)
     with open(FEED, "w") as out:
         out.write(line(b"\2" + bytes(10)))
         for n in range(1, COUNT + 1):
@@ -31,23 +30,7 @@ def write_feed():
             out.write(line(bytes([1, side, remove]) + numbers))
 
 
-def timed(command):
-    start = time.perf_counter()
-    subprocess.run(command, shell=True, check=True)
-    return time.perf_counter() - start
-
-
-def program():
-    made = subprocess.run([ROOT / "bindings/program", "feed"], stdout=subprocess.PIPE, text=True)
-    if made.returncode != 0:
-        sys.exit("There is no feed program to time.")
-    path = Path(made.stdout.strip())
-    if platform.machine() != "x86_64" and path == ROOT / "target/bin/feed":
-        sys.exit("That program is for x86-64, and its time under an emulator says nothing.")
-    return path
-
-
-PROGRAM = program()
+PROGRAM = program("feed")
 write_feed()
 ends = subprocess.run([PROGRAM, FEED], capture_output=True, check=True).stdout.decode().split("\n")
 taken = sum(1 for row in ends if row.endswith(" 0") and row[:1].isdigit())

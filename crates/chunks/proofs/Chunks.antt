@@ -14,7 +14,8 @@ use Rattle.types.proofs.Booleans.{by}
 use Rattle.wire.specs.Wire.{lineFeed}
 use Rattle.frames.specs.Frames.{Frame}
 use Rattle.frames.specs.Decode.{decode}
-use Rattle.streams.specs.Streams.{onto, lines}
+use Rattle.types.specs.Bytes.{onto}
+use Rattle.streams.specs.Streams.{lines}
 use Rattle.streams.proofs.Splits.{NoFeed, no-feed-take, ontos, ontos-cons, ontos-nil, lines-on}
 use Rattle.receiver.specs.declared.Receiver.{Receiver}
 use Rattle.receiver.specs.Turns.{Turn, isReceiver, start, turn, taken, turns, heard}

@@ -27,7 +27,8 @@ use Rattle.day_printing.specs.Booked.{refusedText, dayText}
 use Rattle.day_keeping.specs.declared.Collected.{Collected}
 use Rattle.day_keeping.specs.Inner.Keeping.{kept}
 use Rattle.day_collecting.specs.Inner.Collecting.{KeptOf}
-use Rattle.day_texts.specs.Texts.{day, dayKept, dayRead}
+use Rattle.day_texts.specs.Texts.{day, dayRead}
+use Rattle.day_texts.specs.Kept.{dayKept}
 use Rattle.day_texts.proofs.Numbers.{kept-count}
 use Rattle.day_texts.proofs.Texts.{kept-as-said}
 use Rattle.day_booking.specs.Days.{runText, dayPrinted, textPrinted}

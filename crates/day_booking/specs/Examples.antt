@@ -2,7 +2,7 @@
 use mathlib.Core.Path.{_≡_, refl}
 use mathlib.Core.List.{[]}
 use Rattle.amount.specs.Sums.{allTo}
-use Rattle.types.specs.Quoted.{bytes}
+use Rattle.types.specs.Bytes.{bytes}
 use Rattle.types.specs.Runs.{untilRefused}
 use Rattle.holding.specs.Holding.{isPosition, isFill, averageAfter, positionAfter}
 use Rattle.holding.specs.Rows.{arePositions}

@@ -6,7 +6,7 @@ use mathlib.Core.List.{List, []}
 use lib.IntN.{ℤ, pos}
 use lib.ListN.{replicate}
 use Rattle.amount.specs.Whole.{amount}
-use Rattle.types.specs.Quoted.{bytes}
+use Rattle.types.specs.Bytes.{bytes}
 use Rattle.numerals.specs.Numerals.{digitsOn}
 use Rattle.day_lines.specs.Words.{spoken, parts, notEmpty}
 use Rattle.day_lines.specs.Lines.{saidBy}

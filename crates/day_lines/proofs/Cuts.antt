@@ -10,7 +10,8 @@ use lib.Dec.{eqb, ltb}
 use lib.ListN.{length, take, drop, getD, length-drop, drop-of-length-le}
 use lib.Seq.{drop-cons, drop-drop, take-suc, length-take-le, getD-drop}
 use Rattle.types.proofs.Booleans.{by}
-use Rattle.day_lines.specs.Words.{spoken, isBlank, putBefore, parts, notEmpty, words, wordAt, alike}
+use Rattle.types.specs.Bytes.{onto}
+use Rattle.day_lines.specs.Words.{spoken, isBlank, parts, notEmpty, words, wordAt, alike}
 use Rattle.day_lines.specs.Inner.Places.{Starts, Ends, Next}
 
 -- ── up to the remark ──
@@ -46,11 +47,11 @@ unfolding parts
 before-none [] = refl
 before-none (b ∷ bs) = by (isBlank b) (λ e. rw e) (λ e. rw e (go (parts bs)))
   where
-    go : (ps : List (List ℕ)) → putBefore b ps ≡ before [] (putBefore b ps)
+    go : (ps : List (List ℕ)) → onto b ps ≡ before [] (onto b ps)
     go [] = refl
     go (p ∷ ps) = refl
 
-before-onto : (w : List ℕ) (b : ℕ) (ps : List (List ℕ)) → before w (putBefore b ps) ≡ before (w ++ (b ∷ [])) ps
+before-onto : (w : List ℕ) (b : ℕ) (ps : List (List ℕ)) → before w (onto b ps) ≡ before (w ++ (b ∷ [])) ps
 before-onto w b [] = refl
 before-onto w b (p ∷ ps) = ap (λ (l : List ℕ). l ∷ ps) (sym (append-assoc w (b ∷ []) p))
 
@@ -83,7 +84,7 @@ module _ (s : List ℕ) (at i : ℕ) (after : at ≤ i) where
       let m : at + (i - at) ≡ i = omega arith in
       let l : i - at < length (drop at s) = omega (arith, length-drop at s) in
       let x : getD (drop at s) (i - at) 0 ≡ getD s i 0 = getD-drop at s (i - at) 0 ∙ ap (λ (j : ℕ). getD s j 0) m in
-      let there : parts (drop i s) ≡ putBefore (getD s i 0) (parts (drop (suc i) s)) = rw (drop-cons s i 0 h, n) in
+      let there : parts (drop i s) ≡ onto (getD s i 0) (parts (drop (suc i) s)) = rw (drop-cons s i 0 h, n) in
       e ∙ rw (there, k, add-one i, take-suc (drop at s) (i - at) 0 l, x) (before-onto (take (i - at) (drop at s)) (getD s i 0) (parts (drop (suc i) s)))
 
   pub word-blank :

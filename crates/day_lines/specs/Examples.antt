@@ -4,7 +4,7 @@ use mathlib.Core.Path.{_≡_, refl}
 use mathlib.Core.List.{[]}
 use lib.IntN.{ℤ, pos, negℤ}
 use Rattle.amount.specs.Whole.{amount}
-use Rattle.types.specs.Quoted.{bytes}
+use Rattle.types.specs.Bytes.{bytes}
 use Rattle.types.specs.declared.Side.{Side}
 use Rattle.types.specs.declared.Side.the-variants.{Bid, Ask}
 use Rattle.day_lines.specs.Words.{spoken, parts, notEmpty}

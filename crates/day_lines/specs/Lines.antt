@@ -3,7 +3,7 @@ use Prim.Native.Nat.{ℕ}
 use mathlib.Core.Bool.{cond}
 use mathlib.Core.List.{List, [], _∷_}
 use Rattle.amount.specs.declared.Amount.{Amount}
-use Rattle.types.specs.Quoted.{bytes}
+use Rattle.types.specs.Bytes.{bytes}
 use Rattle.types.specs.declared.Side.{Side}
 use Rattle.types.specs.declared.Side.the-variants.{Bid, Ask}
 use Rattle.day_lines.specs.Words.{spoken, words, alike}

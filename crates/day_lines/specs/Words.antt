@@ -4,6 +4,7 @@ use mathlib.Core.Bool.{Bool, true, false, _||_, cond}
 use mathlib.Core.List.{List, [], _∷_}
 use lib.Dec.{eqb}
 use lib.ListN.{getD}
+use Rattle.types.specs.Bytes.{onto}
 
 -- the bytes before the first `#`
 unfoldable pub spoken : List ℕ → List ℕ
@@ -14,15 +15,10 @@ spoken (b ∷ bs) = cond (eqb b 35) [] (b ∷ spoken bs)
 abbrev pub isBlank : ℕ → Bool
 isBlank b = eqb b 32 || (eqb b 9 || eqb b 13)
 
--- a byte put before the first part
-abbrev pub putBefore : ℕ → List (List ℕ) → List (List ℕ)
-putBefore b [] = (b ∷ []) ∷ []
-putBefore b (p ∷ ps) = (b ∷ p) ∷ ps
-
 -- the parts of a text between its blanks; where blanks stand side by side, or at an end, a part is empty
 unfoldable pub parts : List ℕ → List (List ℕ)
 parts [] = [] ∷ []
-parts (b ∷ bs) = cond (isBlank b) ([] ∷ parts bs) (putBefore b (parts bs))
+parts (b ∷ bs) = cond (isBlank b) ([] ∷ parts bs) (onto b (parts bs))
 
 -- the parts that are not empty
 unfoldable pub notEmpty : List (List ℕ) → List (List ℕ)

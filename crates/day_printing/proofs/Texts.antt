@@ -16,7 +16,7 @@ use Rattle.holding.specs.declared.Position.{Position}
 use Rattle.decimals.specs.Decimals.{decimal, Puts}
 use Rattle.decimals.proofs.Digits.{decimal-short, signed-short}
 use Rattle.decimals.proofs.Puts.{then, kept}
-use Rattle.types.specs.Quoted.{bytes}
+use Rattle.types.specs.Bytes.{bytes}
 use Rattle.day_printing.specs.Booked.{valueText, amountText, lineText, carriedText, valuesText, placeText, refusalText, refusedText, isAllZero, positionText, heldText, positionsText, totalText}
 
 -- no byte put

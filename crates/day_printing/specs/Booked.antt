@@ -5,7 +5,7 @@ use mathlib.Core.List.{List, [], _++_}
 use lib.Dec.{eqb, ltb}
 use lib.IntN.{ℤ, pos, natAbs}
 use lib.Signed.{ltZ}
-use Rattle.types.specs.Quoted.{bytes}
+use Rattle.types.specs.Bytes.{bytes}
 use Rattle.told.specs.declared.Whole.{Whole}
 use Rattle.told.specs.declared.Told.{Told}
 use Rattle.holding.specs.declared.Position.{Position}

@@ -5,7 +5,7 @@ use mathlib.Core.List.{[], _∷_, _++_}
 use lib.IntN.{ℤ, pos, negℤ}
 use lib.ListN.{replicate}
 use Rattle.amount.specs.Whole.{amount}
-use Rattle.types.specs.Quoted.{bytes}
+use Rattle.types.specs.Bytes.{bytes}
 use Rattle.told.specs.Numbers.{told}
 use Rattle.position.specs.declared.PositionLedger.{PositionLedger}
 use Rattle.decimals.specs.Decimals.{lastDigits, signedDecimal}

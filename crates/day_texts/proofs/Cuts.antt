@@ -6,7 +6,7 @@ use mathlib.Core.List.{List, [], _∷_, _++_, append-nil, append-assoc}
 use lib.Dec.{eqb}
 use lib.ListN.{length, length-append}
 use native.Mathlib.Omega.{arith}
-use Rattle.day_lines.specs.Words.{putBefore}
+use Rattle.types.specs.Bytes.{onto}
 use Rattle.day_texts.specs.Texts.{linesOf}
 
 -- these bytes are a line, if there are any
@@ -31,7 +31,7 @@ module _ (held : List ℕ) (b : ℕ) (bs : List ℕ) where
   feed-ends e = rw (e, append-nil held)
 
   -- the first line, with another byte held
-  byte-before : (ls : List (List ℕ)) → behind held (putBefore b ls) ≡ behind (held ++ (b ∷ [])) ls
+  byte-before : (ls : List (List ℕ)) → behind held (onto b ls) ≡ behind (held ++ (b ∷ [])) ls
   byte-before [] = go held
     where
       go : (h : List ℕ) → _≡_ {A = List (List ℕ)} ((h ++ (b ∷ [])) ∷ []) (alone (h ++ (b ∷ [])))
@@ -54,6 +54,6 @@ pub longer : (held : List ℕ) (b : ℕ) (bs : List ℕ) → eqb b 10 ≡ false 
 unfolding linesOf
 longer held b bs e = rw e (go (linesOf bs))
   where
-    go : (ls : List (List ℕ)) → Longer held (behind held (putBefore b ls))
+    go : (ls : List (List ℕ)) → Longer held (behind held (onto b ls))
     go [] = record { line = held ++ (b ∷ []); others = []; here = refl; long = simp length-append (omega arith) }
     go (l ∷ ls) = record { line = held ++ (b ∷ l); others = ls; here = refl; long = simp length-append (omega arith) }

@@ -19,7 +19,8 @@ use Rattle.day_lines.specs.Words.{spoken, words}
 use Rattle.day_lines.specs.Lines.{said}
 use Rattle.day_lines.proofs.Fits.{Small, SmallIn, said-small}
 use Rattle.day_keeping.specs.Inner.Keeping.{Kept, spoilt, with, lineTaken, lineEnded}
-use Rattle.day_texts.specs.Texts.{Read, unopened, day, noDay, andLine, readKept}
+use Rattle.day_texts.specs.Texts.{Read, unopened, day, noDay, andLine}
+use Rattle.day_texts.specs.Kept.{readKept}
 use Rattle.day_texts.proofs.Numbers.{kept-more, kept-count}
 
 -- what is kept, as the lines leave it

@@ -1,4 +1,4 @@
--- What is kept of a text is what the text says (specs/Texts.antt), byte by byte.
+-- What is kept of a text is what the text says (specs/Kept.antt), byte by byte.
 use Prim.Native.Nat.{ℕ, _+_, _≤_, _<_}
 use mathlib.Core.Bool.{true}
 use mathlib.Core.Path.{_≡_, refl, sym, ap, _∙_}
@@ -14,7 +14,8 @@ use Rattle.day_lines.specs.declared.Said.the-variants as L
 use Rattle.day_keeping.specs.Inner.Keeping.{Kept, kept, spoilt, with, lineEnded}
 use Rattle.day_collecting.specs.Inner.Collecting.{lastEnded, oneHeld, textTaken, unread}
 use Rattle.day_collecting.proofs.Texts.{stopped, byte-ends, byte-held, byte-past, at-end}
-use Rattle.day_texts.specs.Texts.{linesOf, lineSays, Read, unopened, day, noDay, andLine, readOn, readKept, KeptAsSaid}
+use Rattle.day_texts.specs.Texts.{linesOf, lineSays, Read, unopened, noDay, andLine, readOn}
+use Rattle.day_texts.specs.Kept.{readKept, KeptAsSaid}
 use Rattle.day_texts.proofs.Cuts.{alone, behind, behind-none, feed-ends, byte-kept, longer}
 use Rattle.day_texts.proofs.Taken.{Stands, none-after, ended-stands, ended-line, ended-read}
 

@@ -1,24 +1,20 @@
--- What the text of a day says: first an opening cash, then fills, a line each. And that what the program keeps of the text says the same.
-use Prim.Native.Nat.{ℕ, _+_, _*_}
+-- What the text of a day says: first an opening cash, then fills, a line each.
+use Prim.Native.Nat.{ℕ, _+_}
 use mathlib.Core.Bool.{cond}
-use mathlib.Core.Path.{_≡_}
 use mathlib.Core.List.{List, [], _∷_, _++_}
 use lib.Dec.{eqb, leb, ltb}
-use lib.ListN.{length, take}
+use lib.ListN.{length}
 use Rattle.amount.specs.declared.Amount.{Amount}
 use Rattle.holding.specs.declared.Fill.{Fill}
-use Rattle.day.specs.Numbers.{fillsBy}
-use Rattle.day_lines.specs.Words.{putBefore}
+use Rattle.types.specs.Bytes.{onto}
 use Rattle.day_lines.specs.Lines.{maxLine, maxFills, said}
 use Rattle.day_lines.specs.declared.Said.{Said}
 use Rattle.day_lines.specs.declared.Said.the-variants as L
-use Rattle.day_keeping.specs.Inner.Keeping.{Kept}
-use Rattle.day_collecting.specs.Inner.Collecting.{KeptOf}
 
 -- the lines of a text, their line feeds left out: behind the last line feed there is one more, if there is a byte
 unfoldable pub linesOf : List ℕ → List (List ℕ)
 linesOf [] = []
-linesOf (b ∷ bs) = cond (eqb b 10) ([] ∷ linesOf bs) (putBefore b (linesOf bs))
+linesOf (b ∷ bs) = cond (eqb b 10) ([] ∷ linesOf bs) (onto b (linesOf bs))
 
 -- what a line says; one of too many bytes is none of a day
 abbrev pub lineSays : List ℕ → Said
@@ -65,22 +61,3 @@ readOn r n (l ∷ ls) = readOn (andLine r n (lineSays l)) (n + 1) ls
 -- what a text says; its lines are counted from 1
 abbrev pub dayRead : List ℕ → Read
 dayRead text = readOn unopened 1 (linesOf text)
-
--- ── as the program keeps it ──
-
--- the day that is kept
-abbrev pub dayKept : Kept → Day
-dayKept k = record {
-  cash = k .day .cash;
-  opened = k .day .opened;
-  fills = fillsBy (take (5 * k .day .fills) (k .numbers));
-  lines = take (k .day .fills) (k .lines);
-}
-
--- what is kept, as what lines say together
-abbrev pub readKept : Kept → Read
-readKept k = cond (k .day .good) (cond (eqb (k .day .opened) 0) unopened (day (dayKept k))) noDay
-
--- What is kept of a text is what the text says.
-abbrev pub KeptAsSaid : Type 0
-KeptAsSaid = (text : List ℕ) (k : Kept) → KeptOf text k → readKept k ≡ dayRead text

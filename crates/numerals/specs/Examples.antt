@@ -3,7 +3,7 @@ use mathlib.Core.Path.{_≡_, refl}
 use mathlib.Core.List.{[]}
 use lib.IntN.{pos, negℤ}
 use Rattle.amount.specs.Whole.{amount}
-use Rattle.types.specs.Quoted.{bytes}
+use Rattle.types.specs.Bytes.{bytes}
 use Rattle.numerals.specs.Numerals.{digitsOn, numeralUpTo, signedOf}
 use Rattle.numerals.specs.declared.Number.the-variants as N
 use Rattle.numerals.specs.declared.Signed.the-variants as S

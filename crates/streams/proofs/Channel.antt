@@ -11,7 +11,8 @@ use lib.ListN.{set, take}
 use Rattle.wire.specs.Wire.{lineFeed, digit, digitsOf, checkByte}
 use Rattle.frames.specs.Frames.{Frame, delta, snapshot, bytesOf, digits, IsWhole}
 use Rattle.frames.specs.Decode.{decode}
-use Rattle.streams.specs.Streams.{onto, lines}
+use Rattle.types.specs.Bytes.{onto}
+use Rattle.streams.specs.Streams.{lines}
 use Rattle.streams.specs.Channel.{Piece, sent, replaced, cut, joined, IsDamage, Pieces, pieceBytes, stream, seen}
 use Rattle.streams.specs.Reading.{NeverReads, ReadsAsSeen}
 use Rattle.frames.proofs.Reading.{reads, damaged}

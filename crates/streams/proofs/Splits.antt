@@ -10,7 +10,8 @@ use lib.Dec.{eqb}
 use lib.ListN.{length, getD, set, take, drop, drop-of-length-le}
 use lib.Seq.{drop-cons}
 use Rattle.wire.specs.Wire.{lineFeed}
-use Rattle.streams.specs.Streams.{onto, lines, lineEnd}
+use Rattle.types.specs.Bytes.{onto}
+use Rattle.streams.specs.Streams.{lines, lineEnd}
 use Rattle.streams.specs.Reading.{CutsFirst}
 
 -- ── bytes without a line feed ──

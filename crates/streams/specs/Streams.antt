@@ -3,12 +3,8 @@ use Prim.Native.Nat.{ℕ, suc}
 use mathlib.Core.Bool.{cond}
 use mathlib.Core.List.{List, [], _∷_}
 use lib.Dec.{eqb}
+use Rattle.types.specs.Bytes.{onto}
 use Rattle.wire.specs.Wire.{lineFeed}
-
--- a byte put before the first line
-abbrev pub onto : ℕ → List (List ℕ) → List (List ℕ)
-onto c [] = (c ∷ []) ∷ []
-onto c (l ∷ ls) = (c ∷ l) ∷ ls
 
 -- the lines of a stream
 abbrev pub lines : List ℕ → List (List ℕ)

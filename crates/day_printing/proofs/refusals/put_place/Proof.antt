@@ -5,7 +5,7 @@ use mathlib.Core.List.{_++_}
 use borrow.Author.Needs.{needs}
 use lib.ListN.{length}
 use Rattle.decimals.proofs.Puts.{then, front-room, rest-room}
-use Rattle.types.specs.Quoted.{bytes}
+use Rattle.types.specs.Bytes.{bytes}
 use Rattle.day_printing.specs.Booked.{valueText, placeText}
 use Rattle.day_printing.proofs.refusals.put_place.Statement.{statement}
 use Rattle.day_printing.proofs.refusals.put_place.Tie as tie
