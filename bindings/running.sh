@@ -9,6 +9,14 @@ say() { echo "${0##*/}: $1" >&2; }
 # Says what is wrong with the call.
 misused() { say "$1"; echo "$usage" >&2; exit 2; }
 
+# awk, line by line: mawk reads a pipe in blocks, unless it is told not to.
+awk_lines() {
+  case $(awk -W version </dev/null 2>&1) in
+    mawk*) awk -W interactive "$@" ;;
+    *) awk "$@" ;;
+  esac
+}
+
 # Sets run, the words that run the program PROGRAM of this path.
 runner() {
   local machine tools
