@@ -205,8 +205,6 @@ pub fn flag<'a>(
     if !rows::is_book(bp, bq, ap, aq, counts) {
         return FlagAnswer::Refused(Refusal::NotARecord);
     }
-    let bids = counts.bids;
-    let asks = counts.asks;
     match question {
         BookFlag::HasPrice(side, price) => depth::has_price(
             side,
@@ -215,9 +213,8 @@ pub fn flag<'a>(
             counts.of(side),
             price,
         ),
-        BookFlag::IsEmpty => FlagAnswer::Is(bids + asks == 0),
-        BookFlag::IsCrossed => FlagAnswer::Is(
-            !top::is_apart(top::best_of(bp, bq, bids), top::best_of(ap, aq, asks)),
-        ),
+        BookFlag::IsEmpty => FlagAnswer::Is(counts.bids + counts.asks == 0),
+        // a book's best bid is below its best ask, as the test of the record has just said
+        BookFlag::IsCrossed => FlagAnswer::Is(false),
     }
 }

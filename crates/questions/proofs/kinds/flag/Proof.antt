@@ -11,9 +11,9 @@ use Rattle.levels.proofs.Tables.{levels-length}
 use Rattle.orderbook.specs.declared.OrderBook.{OrderBook}
 use Rattle.orderbook.specs.Book.{sideOf}
 use Rattle.orderbook.specs.Lent.{bookAt}
-use Rattle.questions.specs.Questions.{hasPrice, isEmpty, isCrossed}
-use Rattle.orderbook.proofs.Books.{Tested, tested, sized, lent-rows, picked-rows, picked-order, picked}
-use Rattle.questions.proofs.Asks.{flag-none, both-zero}
+use Rattle.questions.specs.Questions.{hasPrice, isEmpty}
+use Rattle.orderbook.proofs.Books.{Tested, tested, sized, picked-rows, picked-order, picked}
+use Rattle.questions.proofs.Asks.{flag-none, never-crossed, both-zero}
 use Rattle.questions.proofs.kinds.flag.Statement.{statement}
 use Rattle.questions.proofs.kinds.flag.Tie as tie
 
@@ -30,7 +30,7 @@ there : (c : tie.After-of) → rows (c .before .before .row-of .result .now) (c 
 there c = let r = c .before .before in let q = r .before .before in let s = q .before .before .before .before in picked (q .question .given .0 .0) _ _ _ _ (s .args .counts) (r .row-of .ensures) (c .before .row-of2 .ensures) (c .of .ensures)
 
 pub flag-spec : {M : Type 1} → statement M
-unfolding hasPrice isEmpty isCrossed
+unfolding hasPrice isEmpty
 flag-spec =
     tie.close
     (tie.spec
@@ -42,21 +42,14 @@ flag-spec =
     (λ c κs. search needs)
     (λ c κs. let e = c .before .before .before .before .before .before in let t = book e in (picked-rows t (c .before .before .before .before .question .given .0 .0) (there c), picked-order t (c .before .before .before .before .question .given .0 .0) (there c)))
     (λ c. search needs)
-    (λ c. let e = c .before .before in let k = book e .book in omega (arith, k .side Bid .few, k .side Ask .few))
+    (λ c. let k = book (c .before .before .before) .book in omega (arith, k .side Bid .few, k .side Ask .few))
     (λ c. search needs)
-    (λ c κs. let e = c .before .before in lent-rows (book e) Bid)
-    (λ c κs. let e = c .before .before .before in lent-rows (book e) Ask)
-    (λ c κs. search needs)
     (λ c.
     let o = c .before in
     let q = o .before .before .before .before in
     let e = q .before .before in
     rw (q .question .given .1, book e .book .is, c .has-price .ensures) (ap (λ (t : Levels). Q.hasPrice (q .question .given .0 .1 .0) (levels t)) (there o)))
     (λ c.
-    let e = c .before .before in
-    let t = book e in
-    rw (c .enum-told .given .1, t .book .is, levels-length _ (sized t Bid) (t .book .side Bid .few), levels-length _ (sized t Ask) (t .book .side Ask .few), both-zero))
-    (λ c.
-    let q = c .before .before .before in
-    let e = q .before .before in
-    rw (q .enum-told2 .given .1, book e .book .is, c .is-apart .ensures, c .before .best-of2 .ensures, c .before .before .best-of .ensures)))
+    let t = book (c .before .before .before) in
+    rw (c .before .enum-told .given .1, t .book .is, levels-length _ (sized t Bid) (t .book .side Bid .few), levels-length _ (sized t Ask) (t .book .side Ask .few), both-zero))
+    (λ c. rw (c .enum-told2 .given .1) (sym (never-crossed _ (book (c .before .before) .book .is)))))
