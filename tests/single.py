@@ -14,7 +14,7 @@ EXCEPTIONS = {
     ("lent", "apply_delta"): "specs/Lent writes its promise out",
     ("day", "apply_fills"): "specs/Days writes its promise out",
     ("orderbook", "rows.row_of"): "inner: hands a row on",
-    ("orderbook", "rows.apply_to_book"): "inner: asks that the rows are known to make a book",
+    ("orderbook", "rows.apply_to_book"): "inner: asks that the rows are known to make a book, and that the delta is admitted",
     ("position", "rows.apply_to_ledger"): "inner: asks that the rows are known to make a ledger",
 }
 

@@ -1,13 +1,16 @@
-// A delta: what it comes to on a side, in the order of the refusals' numbers, and how it is done to that side's rows. The side is lent as its two
-// rows, with the counts beside them; a delta is decided before anything is written, and a refusal's step leaves every row alone.
+// A delta: whether its numbers admit it and what it then comes to on a side, in the order of the refusals' numbers, and how it is done to that
+// side's rows. The side is lent as its two rows, with the counts beside them; a delta is decided before anything is written, and a refusal's step
+// leaves every row alone.
 ghost use mathlib.Core.Path.{_≡_};
 ghost use mathlib.Core.Bool.{true};
 ghost use Prim.Native.Nat.{_≤_};
 ghost use lib.ListN.{length, take, getD};
+ghost use Rattle.types.specs.declared.Outcome.the-variants.{Done};
 ghost use Rattle.levels.specs.Order.{inOrder};
 ghost use Rattle.changes.specs.Inner.Edits.{EditFits, editOf};
 ghost use Rattle.deltas.specs.Delta.{deltaFits, actionNumber, actionIf};
-ghost use Rattle.deltas.specs.Inner.Deciding.{meets, inverted, actionStep, stepOf, sequenceAfter, outcomeOf, countOf, withCount, stepAt, Stepped};
+ghost use Rattle.deltas.specs.Inner.Deciding.{meets, inverted, actionStep, sequenceAfter, outcomeOf, countOf, withCount, stepAt, Stepped};
+ghost use Rattle.deltas.specs.Inner.Admitting.{Admission};
 use changes::Edit;
 use changes::Step;
 use types::Outcome;
@@ -113,6 +116,27 @@ pub fn delta_fits(action: DeltaAction, price: Price, quantity: Quantity) -> bool
     }
 }
 
+// Whether a delta may be done to a book of this sequence, in the order of the refusals' numbers: its limits, then its sequence.
+pub fn admit(delta: BookDelta, held: u64) -> Outcome
+    ensures { λ r. ⌜ Admission r held delta ⌝ }
+{
+    let action = delta.action;
+    let next = delta.sequence;
+    if !delta_fits(action, delta.price, delta.quantity) {
+        return Outcome::Refused(Refusal::OutOfLimits);
+    }
+    if held == types::LAST_SEQUENCE {
+        return Outcome::Refused(Refusal::LastSequence);
+    }
+    if next != held + 1 {
+        return Outcome::Refused(Refusal::SequenceMismatch {
+            expected: held + 1,
+            got: next,
+        });
+    }
+    Outcome::Done
+}
+
 // Whether `price` reaches or passes the other side's best price, 0 for none.
 fn meets(side: Side, price: Price, best: Price) -> bool
     ensures { λ r. ⌜ r ≡ meets side price best ⌝ }
@@ -166,35 +190,6 @@ fn action_step(
     }
 }
 
-// What a delta to a side comes to, in the order of the refusals' numbers.
-fn decide(
-    side: Side,
-    prices: &[u32; 128],
-    n: usize,
-    best: Price,
-    held: u64,
-    delta: BookDelta,
-) -> Step
-    requires { ⌜ (length (now prices) ≡ 128) × (n ≤ 128) × (inOrder side (take n (now prices)) ≡ true) ⌝ }
-    ensures { λ r. ⌜ r ≡ stepOf side (take n (now (prices .entry))) n best held delta ⌝ }
-{
-    let action = delta.action;
-    let next = delta.sequence;
-    if !delta_fits(action, delta.price, delta.quantity) {
-        return Step::Refuse(Refusal::OutOfLimits);
-    }
-    if held == types::LAST_SEQUENCE {
-        return Step::Refuse(Refusal::LastSequence);
-    }
-    if next != held + 1 {
-        return Step::Refuse(Refusal::SequenceMismatch {
-            expected: held + 1,
-            got: next,
-        });
-    }
-    action_step(action, side, prices, n, best, delta.price)
-}
-
 fn edit_of(step: Step) -> Edit
     ensures { λ r. ⌜ r ≡ editOf step ⌝ }
 {
@@ -229,7 +224,7 @@ pub fn top(prices: &[u32; 128]) -> Price
     prices[0]
 }
 
-// A delta to a side, where the other side's best price is `best`: its step is decided, then done on both rows.
+// A delta that is admitted, to a side, where the other side's best price is `best`: its step is decided, then done on both rows.
 pub fn apply_side(
     side: Side,
     prices: &mut [u32; 128],
@@ -238,17 +233,17 @@ pub fn apply_side(
     counts: Counts,
     delta: BookDelta,
 ) -> RowsApplied
-    requires { ⌜ (length (now quantities) ≡ 128) × ((length (now prices) ≡ 128) × (countOf side counts ≤ 128) × (inOrder side (take (countOf side counts) (now prices)) ≡ true)) × EditFits (editOf (stepAt side (now prices) counts best delta)) (countOf side counts) ⌝ }
+    requires { ⌜ (length (now quantities) ≡ 128) × ((length (now prices) ≡ 128) × (countOf side counts ≤ 128) × (inOrder side (take (countOf side counts) (now prices)) ≡ true)) × EditFits (editOf (stepAt side (now prices) counts best delta)) (countOf side counts) × Admission Done (counts .sequence) delta ⌝ }
     ensures { λ r. ⌜ Stepped side (stepAt side (now (prices .entry)) counts best delta) counts delta (now (prices .entry)) (now (quantities .entry)) (now (prices .exit)) (now (quantities .exit)) r ⌝ }
 {
     let n = counts.of(side);
-    let held = counts.sequence;
-    let step = decide(side, prices, n, best, held, delta);
+    let action = delta.action;
+    let step = action_step(action, side, prices, n, best, delta.price);
     let edit = edit_of(step);
     changes::edit_row(prices, edit, n, delta.price);
     changes::edit_row(quantities, edit, n, delta.quantity);
     let after = changes::edit_count(edit, n);
-    let sequence = sequence_after(step, held, delta.sequence);
+    let sequence = sequence_after(step, counts.sequence, delta.sequence);
     RowsApplied {
         counts: counts.with(side, after, sequence),
         outcome: outcome_of(step),

@@ -18,12 +18,12 @@ use Rattle.types.specs.declared.PriceLevel.{PriceLevel}
 use Rattle.deltas.specs.declared.BookDelta.{BookDelta}
 use Rattle.deltas.specs.declared.DeltaAction.{DeltaAction}
 use Rattle.deltas.specs.declared.DeltaAction.the-variants.{Set, Remove}
-use Rattle.deltas.specs.Delta.{actionNumber, actionNamed}
+use Rattle.deltas.specs.Delta.{deltaFits, actionNumber, actionNamed}
 use Rattle.wire.specs.Wire.{lineFeed, digit, value, digitsOf, be, checkByte, line, field}
 use Rattle.wire.proofs.Bytes.{spelt-be}
 use Rattle.frames.specs.Frames.{Snapshot, Frame, delta, snapshot, levelBytes, bytesOf, encode, isWhole, IsWhole}
 use Rattle.frames.specs.Decode.{deltaIn, levelsIn, snapshotIn, frameIn, same, ifLineOf, decode, deltaRead}
-use Rattle.frames.proofs.Whole.{DeltaFacts, delta-facts, SnapshotFacts, snapshot-facts, InWords, delta-length, snapshot-length, short}
+use Rattle.frames.proofs.Whole.{DeltaFacts, delta-facts, whole-fits, SnapshotFacts, snapshot-facts, InWords, delta-length, snapshot-length, short}
 
 -- ── the same bytes ──
 
@@ -164,3 +164,15 @@ module _ (l : List ℕ) (d : BookDelta) (in-line : d ≡ deltaIn l) where
 
   pub not-whole : isWhole (delta d) ≡ false → refused 12 [] ≡ deltaRead (decode l)
   not-whole h = sym (no-delta l (λ w e. false≢true (sym h ∙ ap (λ (x : BookDelta). isWhole (delta x)) in-line ∙ w)))
+
+-- ── a delta that was read ──
+
+-- is what the line reads as
+pub as-read : (o : Option Frame) (d : BookDelta) → done d ≡ deltaRead o → o ≡ some (delta d)
+as-read none d e = let z : _≡_ {A = ℕ} 0 1 = cc in absurd (omega arith)
+as-read (some (delta x)) d e = let z : x ≡ d = cc in ap (λ (y : BookDelta). some (delta y)) z
+as-read (some (snapshot s)) d e = let z : _≡_ {A = ℕ} 0 1 = cc in absurd (omega arith)
+
+-- and its numbers are within their limits
+pub read-fits : (l : List ℕ) (d : BookDelta) → done d ≡ deltaRead (decode l) → deltaFits (d .action) (d .price) (d .quantity) ≡ true
+read-fits l d e = whole-fits d (only l (delta d) (as-read (decode l) d e) .0)

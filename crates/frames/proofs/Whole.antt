@@ -1,7 +1,7 @@
 -- What is known of a whole frame: its numbers fit their bytes, a side has at most 128 levels, and its line at most 4,120 digits.
 use Prim.Native.Nat.{ℕ, _+_, _*_, _^_, _<_, _≤_}
 use mathlib.Core.Bool.{Bool, true, false, _&&_, and-eq-true-iff, and-true, and-assoc}
-use mathlib.Core.Path.{_≡_, refl, sym, ap}
+use mathlib.Core.Path.{_≡_, refl, sym, ap, _∙_}
 use mathlib.Core.List.{List, [], _∷_}
 use native.Mathlib.Omega.{arith}
 use borrow.Author.Tests.{leb-true, le-leb, eqb-true}
@@ -61,6 +61,11 @@ whole-delta d h = rw (le-leb _ _ h) (go (d .action) (d .price) (d .quantity))
     go : (a : DeltaAction) (p q : ℕ) → isPrice p && (quantityFits a q && true) ≡ deltaFits a p q && emptied a q
     go Set p q = sym (and-assoc (isPrice p) (isQuantity q) true)
     go Remove p q = ap (λ (t : Bool). isPrice p && t) (and-true (eqb q 0))
+
+-- so a whole delta fits
+pub whole-fits : (d : BookDelta) → IsWhole (delta d) → deltaFits (d .action) (d .price) (d .quantity) ≡ true
+whole-fits d w =
+    and-eq-true-iff (deltaFits (d .action) (d .price) (d .quantity)) _ .0 (sym (whole-delta d (delta-facts d w .sequence-limit)) ∙ w) .0
 
 -- ── a snapshot ──
 

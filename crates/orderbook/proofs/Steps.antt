@@ -2,7 +2,7 @@
 -- it leaves are those of `tried`.
 use Prim.Native.Nat.{ℕ, _+_, _≤_, _<_}
 use native.Mathlib.Omega.{arith}
-use mathlib.Core.Path.{_≡_, refl, _∙_}
+use mathlib.Core.Path.{_≡_, refl, sym, ap, _∙_}
 use mathlib.Core.Bool.{true, false, and-eq-true-iff}
 use mathlib.Core.List.{List}
 use lib.Dec.{leb, ltb, eqb}
@@ -14,6 +14,7 @@ use Rattle.types.specs.Answers.{replyOfOutcome}
 use Rattle.types.specs.declared.Side.{Side}
 use Rattle.types.specs.declared.Side.the-variants.{Bid, Ask}
 use Rattle.types.specs.declared.PriceLevel.{PriceLevel}
+use Rattle.types.specs.declared.Outcome.the-variants as O
 use Rattle.types.specs.declared.Refusal.{Refusal}
 use Rattle.types.specs.declared.Refusal.the-variants as R
 use Rattle.levels.specs.Order.{inOrder}
@@ -35,7 +36,8 @@ use Rattle.orderbook.specs.Book.{opposite, sideOf, levelsOf, bidsOf, ask
 use Rattle.orderbook.specs.Apply.{Change, acted, afterDelta, bestPrice, placed, tried}
 use Rattle.deltas.specs.Delta.{deltaFits}
 use Rattle.deltas.specs.Inner.Deciding.{meets, inverted, actionStep, stepOf, sequenceAfter, outcomeOf}
-use Rattle.orderbook.proofs.Books.{a-book}
+use Rattle.deltas.specs.Inner.Admitting.{Admission}
+use Rattle.orderbook.proofs.Books.{a-book, Tested, sized}
 use Rattle.orderbook.proofs.Bests.{apartOn, best-first, priced, set-apart, set-best, remove-apart}
 
 -- what a book's two sides are, when one of them is looked at first
@@ -52,6 +54,9 @@ sides Ask b h = let k = a-book b h in record { own = k .side Ask; rest = k .side
 pub record Rows (s : Side) (b : OrderBook) : Type 0 where
   pub own : Sized (sideOf s b)
   pub rest : Sized (sideOf (opposite s) b)
+
+pub both-rows : (s : Side) {b : OrderBook} → Tested b → Rows s b
+both-rows s t = record { own = sized t s; rest = sized t (opposite s) }
 
 -- the book with one side's table and a sequence
 abbrev pub withSide : Side → Levels → ℕ → OrderBook → OrderBook
@@ -186,3 +191,10 @@ module _ (s : Side) (b : OrderBook) (p : Sides s b) (w : Rows s b) where
         (λ g. rw g (refusal-carried s (R.SequenceMismatch (b .sequence + 1) (d .sequence)) b d))))
         (λ f. rw f (refusal-carried s R.LastSequence b d))))
         (λ e. rw e (refusal-carried s R.OutOfLimits b d))
+
+-- a delta that its own numbers refuse leaves a book as it was
+pub refused-kept :
+    {b : OrderBook} → Tested b → (d : BookDelta) (why : Refusal) → Admission (O.Refused why) (b .sequence) d → record { book = b; reply = refuse why } ≡ tried b d
+refused-kept {b} t d why told =
+    let s = d .side in
+    sym (refusal-carried s why b d) ∙ ap (λ (st : Step). carried s st b d) (sym (told s _ _ _)) ∙ step-done s b (sides s b (t .book .is)) (both-rows s t) d refl

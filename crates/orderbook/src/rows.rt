@@ -3,7 +3,9 @@
 ghost use mathlib.Core.Path.{_≡_};
 ghost use mathlib.Core.Bool.{true};
 ghost use Rattle.types.specs.Answers.{replyOfOutcome};
+ghost use Rattle.types.specs.declared.Outcome.the-variants.{Done};
 ghost use Rattle.levels.specs.Table.{rows};
+ghost use Rattle.deltas.specs.Inner.Admitting.{Admission};
 ghost use Rattle.orderbook.specs.Book.{ofSide, sidesFit, isBook};
 ghost use Rattle.orderbook.specs.Apply.{applied, cleared, sideCleared};
 ghost use Rattle.orderbook.specs.Lent.{bookAt, lentBook, leftBook};
@@ -54,7 +56,7 @@ pub fn row_of<'a>(side: Side, bids: &'a [u32; 128], asks: &'a [u32; 128]) -> &'a
     }
 }
 
-// A delta to rows that are known to make a book.
+// A delta that is admitted, to rows that are known to make a book.
 pub fn apply_to_book(
     bp: &mut [u32; 128],
     bq: &mut [u32; 128],
@@ -63,7 +65,7 @@ pub fn apply_to_book(
     counts: Counts,
     delta: BookDelta,
 ) -> RowsApplied
-    requires { ⌜ (isBook (bookAt (now bp) (now bq) (now ap) (now aq) counts) ≡ true) × Long (bookAt (now bp) (now bq) (now ap) (now aq) counts) ⌝ }
+    requires { ⌜ (isBook (bookAt (now bp) (now bq) (now ap) (now aq) counts) ≡ true) × Long (bookAt (now bp) (now bq) (now ap) (now aq) counts) × Admission Done (counts .sequence) delta ⌝ }
     ensures { λ r. ⌜ record { book = leftBook bp bq ap aq (r .counts); reply = replyOfOutcome (r .outcome) } ≡ applied (lentBook bp bq ap aq counts) delta ⌝ }
 {
     let side = delta.side;
@@ -90,13 +92,17 @@ pub fn apply_delta(
 ) -> RowsApplied
     ensures { λ r. ⌜ record { book = leftBook bp bq ap aq (r .counts); reply = replyOfOutcome (r .outcome) } ≡ applied (lentBook bp bq ap aq counts) delta ⌝ }
 {
-    if is_book(bp, bq, ap, aq, counts) {
-        return apply_to_book(bp, bq, ap, aq, counts, delta);
+    if !is_book(bp, bq, ap, aq, counts) {
+        return RowsApplied {
+            counts,
+            outcome: Outcome::Refused(Refusal::NotARecord),
+        };
     }
-    RowsApplied {
-        counts,
-        outcome: Outcome::Refused(Refusal::NotARecord),
-    }
+    let outcome = deltas::admit(delta, counts.sequence);
+    let Outcome::Done = outcome else {
+        return RowsApplied { counts, outcome };
+    };
+    apply_to_book(bp, bq, ap, aq, counts, delta)
 }
 
 // Empties both sides and sets sequence 0.

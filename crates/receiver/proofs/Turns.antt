@@ -5,19 +5,24 @@ use mathlib.Core.Option.{Option, none, some}
 use mathlib.Core.Path.{_≡_, refl, sym, ap, _∙_}
 use mathlib.Core.List.{List, []}
 use native.Mathlib.Omega.{arith}
-use borrow.Author.Tests.{le-leb, lt-leb, eq-eqb, ne-eqb}
+use borrow.Author.Tests.{lt-ltb, le-leb, lt-leb, eq-eqb, ne-eqb}
+use Rattle.types.specs.Limits.{lastSequence}
 use Rattle.types.specs.Replies.{Reply, done, refused, numberOf, valuesOf, refuse}
 use Rattle.types.specs.Answers.{replyOfOutcome}
 use Rattle.types.specs.declared.Outcome.{Outcome}
 use Rattle.types.specs.declared.Outcome.the-variants as O
 use Rattle.types.specs.declared.Refusal.{Refusal}
 use Rattle.deltas.specs.declared.BookDelta.{BookDelta}
+use Rattle.deltas.specs.Delta.{deltaFits}
+use Rattle.deltas.specs.Inner.Deciding.{stepOf}
+use Rattle.deltas.specs.Inner.Admitting.{Admission}
 use Rattle.orderbook.specs.declared.OrderBook.{OrderBook}
 use Rattle.orderbook.specs.declared.Applied.{Applied}
 use Rattle.orderbook.specs.Apply.{Change, changeOf, applied}
 use Rattle.orderbook.proofs.Kept.{delta-keeps}
 use Rattle.frames.specs.Frames.{Frame, delta, snapshot}
 use Rattle.frames.specs.Decode.{decode, deltaRead}
+use Rattle.frames.proofs.Reading.{as-read}
 use Rattle.lines.specs.Read.{snapshotRead}
 use Rattle.receiver.specs.declared.State.{State}
 use Rattle.receiver.specs.declared.State.the-variants.{Waiting, Live}
@@ -30,9 +35,7 @@ use Rattle.receiver.specs.Inner.Others.{otherTurn}
 module _ (r : Receiver) where
   delta-turn : (o : Option Frame) (d : BookDelta) → done d ≡ deltaRead o → deltaTurn (r .state) r d ≡ turn r o
   unfolding turn
-  delta-turn none d e = let z : _≡_ {A = ℕ} 0 1 = cc in absurd (omega arith)
-  delta-turn (some (delta x)) d e = let z : d ≡ x = cc in ap (deltaTurn (r .state) r) z
-  delta-turn (some (snapshot s)) d e = let z : _≡_ {A = ℕ} 0 1 = cc in absurd (omega arith)
+  delta-turn o d e = rw (as-read o d e)
 
   other-turn : (o : Option Frame) (x : Refusal) → refuse x ≡ deltaRead o → otherTurn r (snapshotRead o) ≡ turn r o
   unfolding turn
@@ -72,6 +75,11 @@ module _ (r : Receiver) (a : Applied) (is-done : a .outcome ≡ O.Done) where
 -- ── a delta ──
 
 module _ (r : Receiver) (d : BookDelta) where
+  -- the next one is admitted where its numbers are within their limits
+  pub next-admitted : deltaFits (d .action) (d .price) (d .quantity) ≡ true → held r < lastSequence → d .sequence ≡ held r + 1 → Admission O.Done (held r) d
+  unfolding stepOf
+  next-admitted h k e = λ _ _ _ _. rw (h, lt-ltb (held r) lastSequence k, eq-eqb (d .sequence) (held r + 1) e)
+
   pub waiting-turn : r .state ≡ Waiting → deltaTurn (r .state) r d ≡ stays r 16
   waiting-turn w = rw w
 

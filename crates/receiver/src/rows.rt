@@ -3,6 +3,9 @@
 ghost use mathlib.Core.Path.{_≡_};
 ghost use mathlib.Core.Bool.{true};
 ghost use Rattle.types.specs.Answers.{replyOfOutcome};
+ghost use Rattle.types.specs.declared.Outcome.the-variants.{Done};
+ghost use Rattle.deltas.specs.Delta.{deltaFits};
+ghost use Rattle.deltas.specs.Inner.Admitting.{Admission};
 ghost use Rattle.orderbook.specs.Book.{isBook};
 ghost use Rattle.orderbook.specs.Apply.{changeOf};
 ghost use Rattle.orderbook.specs.Lent.{bookAt, leftBook};
@@ -100,7 +103,7 @@ fn take_other(
     }
 }
 
-// The next delta, to rows that are known to make a book: applied, or 17 and waiting.
+// The next delta, which is admitted, to rows that are known to make a book: applied, or 17 and waiting.
 fn take_next(
     bp: &mut [u32; 128],
     bq: &mut [u32; 128],
@@ -109,7 +112,7 @@ fn take_next(
     counts: Counts,
     delta: BookDelta,
 ) -> Turned
-    requires { ⌜ (isBook (bookAt (now bp) (now bq) (now ap) (now aq) counts) ≡ true) × Long (bookAt (now bp) (now bq) (now ap) (now aq) counts) ⌝ }
+    requires { ⌜ (isBook (bookAt (now bp) (now bq) (now ap) (now aq) counts) ≡ true) × Long (bookAt (now bp) (now bq) (now ap) (now aq) counts) × Admission Done (counts .sequence) delta ⌝ }
     ensures { λ r. ⌜ record { receiver = leftReceiver bp bq ap aq (r .state) (r .counts); reply = replyOfOutcome (r .outcome) } ≡ nextBy (lentReceiver bp bq ap aq Live counts) delta ⌝ }
 {
     let next = rows::apply_to_book(bp, bq, ap, aq, counts, delta);
@@ -129,7 +132,7 @@ fn take_next(
     }
 }
 
-// A delta, to rows that are known to make a book.
+// A delta within its limits, to rows that are known to make a book.
 fn take_delta(
     bp: &mut [u32; 128],
     bq: &mut [u32; 128],
@@ -139,7 +142,7 @@ fn take_delta(
     counts: Counts,
     delta: BookDelta,
 ) -> Turned
-    requires { ⌜ (isBook (bookAt (now bp) (now bq) (now ap) (now aq) counts) ≡ true) × Long (bookAt (now bp) (now bq) (now ap) (now aq) counts) ⌝ }
+    requires { ⌜ (isBook (bookAt (now bp) (now bq) (now ap) (now aq) counts) ≡ true) × Long (bookAt (now bp) (now bq) (now ap) (now aq) counts) × (deltaFits (delta .action) (delta .price) (delta .quantity) ≡ true) ⌝ }
     ensures { λ r. ⌜ record { receiver = leftReceiver bp bq ap aq (r .state) (r .counts); reply = replyOfOutcome (r .outcome) } ≡ deltaTurn state (lentReceiver bp bq ap aq state counts) delta ⌝ }
 {
     let State::Live = state else {

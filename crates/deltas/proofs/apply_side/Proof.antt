@@ -6,8 +6,8 @@ use Rattle.deltas.specs.Inner.Deciding.{stepAt}
 use Rattle.deltas.proofs.apply_side.Statement.{statement}
 use Rattle.deltas.proofs.apply_side.Tie as tie
 
-step : (c : tie.After-decide) → let a = c .before .before .before .args in c .decide .result ≡ stepAt (a .side) (a .prices .now) (a .counts) (a .best) (a .delta)
-step c = rw (← c .before .before .of .ensures) (c .decide .ensures)
+step : (c : tie.After-action-step) → let a = c .before .before .before .args in c .action-step .result ≡ stepAt (a .side) (a .prices .now) (a .counts) (a .best) (a .delta)
+step c = let s = c .before .before .before in rw (← c .before .before .of .ensures, s .pre .3 (s .args .side)) (c .action-step .ensures)
 
 edit : (c : tie.After-edit-of) → let a = c .before .before .before .before .args in c .edit-of .result ≡ editOf (stepAt (a .side) (a .prices .now) (a .counts) (a .best) (a .delta))
 edit c = c .edit-of .ensures ∙ ap editOf (step (c .before))

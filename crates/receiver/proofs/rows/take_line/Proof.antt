@@ -7,6 +7,7 @@ use Rattle.types.proofs.Booleans.{passed, failed}
 use Rattle.orderbook.specs.Book.{isBook}
 use Rattle.orderbook.specs.Apply.{changeOf}
 use Rattle.orderbook.specs.Lent.{bookAt}
+use Rattle.frames.proofs.Reading.{read-fits}
 use Rattle.receiver.specs.declared.Receiver.{Receiver}
 use Rattle.receiver.proofs.Turns.{not-taken, taken-delta, taken-other}
 use Rattle.receiver.proofs.rows.take_line.Statement.{statement}
@@ -54,6 +55,8 @@ take-line-spec =
     (λ c κs. search needs)
     returns-2
     (λ c κs.
-    let e = c .before .before .before .before .before .before .before .before in
-    (book e, e .before .is-book .ensures .1))
+    let k = c .before .before .before .before in
+    let d = k .before .before .before in
+    let e = d .before in
+    (book e, e .before .is-book .ensures .1, read-fits (now (start (e .before) .args .line)) _ (rw (k .before .delta .given .1) at (d .read-delta .ensures))))
     returns-3)
