@@ -3,7 +3,7 @@ use Prim.Native.Nat.{ℕ}
 use mathlib.Core.Option.{Option, none, some}
 use mathlib.Core.Path.{_≡_, ap, sym, _∙_}
 use native.Mathlib.Omega.{arith}
-use Rattle.types.specs.Replies.{Reply, done, refuse, mapReply}
+use Rattle.types.specs.Replies.{done, refuse, mapReply}
 use Rattle.types.specs.Answers.{replyOfOutcome}
 use Rattle.types.specs.declared.Refusal.{Refusal}
 use Rattle.types.specs.declared.Outcome.the-variants as O
@@ -14,14 +14,13 @@ use Rattle.orderbook.specs.declared.Applied.{Applied}
 use Rattle.orderbook.specs.Apply.{Change, changeOf}
 use Rattle.frames.specs.Frames.{Frame, delta, snapshot, snapshotOf}
 use Rattle.frames.specs.Decode.{deltaRead}
+use Rattle.frames.proofs.Reading.{as-read}
 use Rattle.lines.specs.Read.{Read, readAs, snapshotRead}
 use Rattle.lines.proofs.Booked.{snapshot-book}
 
 -- a delta
 pub as-delta : (o : Option Frame) (d : BookDelta) (b : OrderBook) → done d ≡ deltaRead o → b ≡ emptyBook → _≡_ {A = Read} (record { reply = done (delta d); book = b }) (readAs o)
-as-delta none d b e f = let z : _≡_ {A = ℕ} 0 1 = cc in absurd (omega arith)
-as-delta (some (delta x)) d b e f = let z : d ≡ x = cc in λ i. record { reply = done (delta (z i)); book = f i }
-as-delta (some (snapshot s)) d b e f = let z : _≡_ {A = ℕ} 0 1 = cc in absurd (omega arith)
+as-delta o d b e f = rw (as-read o d e, f)
 
 module _ (o : Option Frame) (a : Applied) (read : changeOf a ≡ snapshotRead o) where
   same-reply : changeOf a .reply ≡ snapshotRead o .reply

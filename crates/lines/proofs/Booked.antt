@@ -5,8 +5,7 @@ use mathlib.Core.Option.{Option, none, some}
 use mathlib.Core.Path.{_≡_, refl, sym, ap, _∙_}
 use mathlib.Core.List.{List}
 use native.Mathlib.Omega.{arith}
-use borrow.Author.Tests.{le-leb, eqb-true, eq-eqb}
-use lib.Dec.{eqb}
+use borrow.Author.Tests.{le-leb}
 use lib.ListN.{length, drop}
 use Rattle.types.specs.Replies.{done}
 use Rattle.types.specs.Limits.{maxLevels, lastSequence}
@@ -52,7 +51,7 @@ unfolding isWhole
 whole-read l = let h : field 1 8 l ≤ lastSequence = omega (arith, field-long 1 l) in rw (le-leb _ _ h, and-true)
 
 -- the counts of a snapshot's line
-counts-read : (l : List ℕ) → IsWhole (snapshot (snapshotIn l)) → l ≡ encode (snapshot (snapshotIn l)) → CountsFit l
+counts-read : (l : List ℕ) → IsWhole (snapshot (snapshotIn l)) → l ≡ encode (snapshot (snapshotIn l)) → CountsFit (length l) (field 9 1 l) (field 10 1 l)
 counts-read l w e =
     let z = snapshotIn l in
     let f = snapshot-facts z w in
@@ -60,15 +59,6 @@ counts-read l w e =
     let a = levels-in-length (field 10 1 l) (drop (22 + 16 * field 9 1 l) l) in
     let n = ap length e ∙ snapshot-length z in
     record { few-bids = omega (arith, f .few-bids, b); few-asks = omega (arith, f .few-asks, a); long = omega (arith, n, a, b) }
-
--- the test of the counts
-pub counts-told :
-    (l : List ℕ) (b a : ℕ) → b ≡ field 9 1 l → a ≡ field 10 1 l → b ≤ maxLevels → a ≤ maxLevels →
-    (eqb (length l) (25 + 16 * (b + a)) ≡ true → CountsFit l) × (CountsFit l → eqb (length l) (25 + 16 * (b + a)) ≡ true)
-counts-told l b a eb ea h k = (
-  λ t. let n : length l ≡ 25 + 16 * (b + a) = eqb-true _ _ t in record { few-bids = omega arith; few-asks = omega arith; long = omega arith },
-  λ f. let n : length l ≡ 25 + 16 * (b + a) = omega (arith, f .long) in eq-eqb _ _ n,
-)
 
 module _ (l : List ℕ) where
   -- the snapshot in a line is not whole, or has another line
@@ -83,7 +73,7 @@ module _ (l : List ℕ) where
           let b : snapshotIn l ≡ s = ap snapshotIn (w .1) ∙ snapshot-back s (snapshot-facts s (w .0)) in
           absurd (h (rw b (w .0)) (rw b (w .1)))
 
-  pub not-counts : (CountsFit l → ⊥) → noSnapshot ≡ snapshotRead (decode l)
+  pub not-counts : (CountsFit (length l) (field 9 1 l) (field 10 1 l) → ⊥) → noSnapshot ≡ snapshotRead (decode l)
   not-counts h = no-snapshot (λ w e. h (counts-read l w e))
 
   module _ (b : OrderBook) (in-line : b ≡ bookOf (snapshotIn l)) where

@@ -10,7 +10,7 @@ ghost use Rattle.types.specs.Written.{written};
 ghost use Rattle.levels.specs.Table.{levels, table, rows};
 ghost use Rattle.orderbook.specs.Apply.{changeOf};
 ghost use Rattle.orderbook.specs.Lent.{bookAt, lentBook};
-ghost use Rattle.wire.specs.Wire.{Part, be};
+ghost use Rattle.wire.specs.Wire.{Part, be, field};
 ghost use Rattle.frames.specs.Frames.{snapshot, snapshotOf, bookOf, levelBytes, encode};
 ghost use Rattle.frames.specs.Decode.{levelsIn, snapshotIn, same, decode};
 ghost use Rattle.frames.specs.Sent.{snapshotLine};
@@ -133,13 +133,11 @@ fn read_side(line: &[u8], at: usize, n: usize) -> Levels
     }
 }
 
-// Reads the numbers that stand where a snapshot has its own into a book.
-fn read_book(line: &[u8]) -> OrderBook
-    requires { ⌜ CountsFit (now line) ⌝ }
+// Reads the numbers that stand where a snapshot has its own into a book; its counts are read already.
+fn read_book(line: &[u8], bids: usize, asks: usize) -> OrderBook
+    requires { ⌜ (bids ≡ field 9 1 (now line)) × (asks ≡ field 10 1 (now line)) × CountsFit (length (now line)) bids asks ⌝ }
     ensures { λ r. ⌜ r ≡ bookOf (snapshotIn (now (line .entry))) ⌝ }
 {
-    let bids = wire::field(line, 9, 1) as usize;
-    let asks = wire::field(line, 10, 1) as usize;
     OrderBook {
         bids: read_side(line, 11, bids),
         asks: read_side(line, 11 + 8 * bids, asks),
@@ -147,22 +145,17 @@ fn read_book(line: &[u8]) -> OrderBook
     }
 }
 
-// Whether a line is as long as its counts say, and they are at most 128.
-fn counts_fit(line: &[u8]) -> bool
-    ensures { λ r. ⌜ (r ≡ true → CountsFit (now (line .entry))) × (CountsFit (now (line .entry)) → r ≡ true) ⌝ }
+// Whether a line of this size is as long as its counts say, and they are at most 128.
+fn counts_fit(size: usize, bids: usize, asks: usize) -> bool
+    ensures { λ r. ⌜ (r ≡ true → CountsFit size bids asks) × (CountsFit size bids asks → r ≡ true) ⌝ }
 {
-    if line.len() < 25 {
-        return false;
-    }
-    let bids = wire::field(line, 9, 1) as usize;
-    let asks = wire::field(line, 10, 1) as usize;
     if bids > 128 {
         return false;
     }
     if asks > 128 {
         return false;
     }
-    line.len() == 25 + 16 * (bids + asks)
+    size == 25 + 16 * (bids + asks)
 }
 
 // Whether a line is that of the book's snapshot, the longest of which has 4,120 digits and a line feed.
@@ -201,10 +194,15 @@ fn damaged() -> Applied
 pub fn read_snapshot(line: &[u8]) -> Applied
     ensures { λ r. ⌜ changeOf r ≡ snapshotRead (decode (now (line .entry))) ⌝ }
 {
-    if !counts_fit(line) {
+    if line.len() < 25 {
         return damaged();
     }
-    let book = read_book(line);
+    let bids = wire::field(line, 9, 1) as usize;
+    let asks = wire::field(line, 10, 1) as usize;
+    if !counts_fit(line.len(), bids, asks) {
+        return damaged();
+    }
+    let book = read_book(line, bids, asks);
     if !book.is_book() {
         return damaged();
     }

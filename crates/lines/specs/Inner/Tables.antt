@@ -6,7 +6,6 @@ use lib.ListN.{length}
 use Rattle.types.specs.Limits.{maxLevels}
 use Rattle.orderbook.specs.declared.OrderBook.{OrderBook}
 use Rattle.orderbook.specs.Inner.Long.{Long}
-use Rattle.wire.specs.Wire.{field}
 
 -- a book's rows have 128 places, its counts are at most that, and its snapshot's line has room
 pub record Room (b : OrderBook) (out : List ℕ) : Type 0 where
@@ -15,8 +14,8 @@ pub record Room (b : OrderBook) (out : List ℕ) : Type 0 where
   pub few-asks : b .asks .count ≤ maxLevels
   pub room : 25 + 16 * (b .bids .count + b .asks .count) ≤ length out
 
--- a line is as long as its counts say, and they are at most 128
-pub record CountsFit (l : List ℕ) : Type 0 where
-  pub few-bids : field 9 1 l ≤ maxLevels
-  pub few-asks : field 10 1 l ≤ maxLevels
-  pub long : length l ≡ 25 + 16 * (field 9 1 l + field 10 1 l)
+-- a line of n bytes is as long as its counts say, and they are at most 128
+pub record CountsFit (n bids asks : ℕ) : Type 0 where
+  pub few-bids : bids ≤ maxLevels
+  pub few-asks : asks ≤ maxLevels
+  pub long : n ≡ 25 + 16 * (bids + asks)
