@@ -1,5 +1,6 @@
 pub mod Bits
 pub mod Ends
+pub mod Found
 pub mod Orders
 pub mod Pads
 pub mod Places

@@ -1,4 +1,5 @@
 pub mod Order
+pub mod Found
 pub mod Table
 pub mod Formed
 pub mod Change

@@ -3,6 +3,8 @@
 // stands in `changes`, and what is asked of them in `walks`.
 ghost use mathlib.Core.Path.{_≡_};
 ghost use mathlib.Core.List.{[]};
+ghost use Prim.Native.Nat.{_≤_};
+ghost use Rattle.levels.specs.Found.{aheadIn, reachedIn};
 ghost use Rattle.levels.specs.Table.{table};
 
 pub mod search; // search.rt: which price comes first, and where a price stands or belongs
@@ -19,6 +21,29 @@ pub struct Levels {
 pub enum Place {
     At(usize),
     Before(usize),
+}
+
+impl Place {
+    // How many prices are ahead of the price.
+    pub fn ahead(self) -> usize
+        ensures { λ r. ⌜ r ≡ aheadIn self ⌝ }
+    {
+        match self {
+            Place::At(i) => i,
+            Place::Before(i) => i,
+        }
+    }
+
+    // How many prices are at the price or ahead of it.
+    pub fn reached(self) -> usize
+        requires { ⌜ reachedIn self ≤ 128 ⌝ }
+        ensures { λ r. ⌜ r ≡ reachedIn self ⌝ }
+    {
+        match self {
+            Place::At(i) => i + 1,
+            Place::Before(i) => i,
+        }
+    }
 }
 
 impl Levels {
