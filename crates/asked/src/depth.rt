@@ -2,7 +2,7 @@
 ghost use mathlib.Core.Path.{_≡_};
 ghost use mathlib.Core.Bool.{true};
 ghost use mathlib.Core.List.{_++_};
-ghost use lib.ListN.{length, take};
+ghost use lib.ListN.{take};
 ghost use Rattle.levels.specs.Order.{inOrder};
 ghost use Rattle.levels.specs.Table.{levels, rows};
 ghost use Rattle.types.specs.Replies.{done};
@@ -71,13 +71,14 @@ pub fn cumulative_depth<'a>(
     n: usize,
     price: u32,
 ) -> NumberAnswer
-    requires { ⌜ SideRows (now prices) (now quantities) n ⌝ }
+    requires { ⌜ SideRows (now prices) (now quantities) n × (inOrder side (take n (now prices)) ≡ true) ⌝ }
     ensures { λ r. ⌜ replyOfNumber r ≡ cumulativeDepth side price (levels (rows (now (prices .entry)) (now (quantities .entry)) n)) ⌝ }
 {
     if !types::is_price(price) {
         return NumberAnswer::Refused(Refusal::OutOfLimits);
     }
-    NumberAnswer::Is(walks::total_up_to(side, prices, quantities, n, price))
+    let reached = search::find(side, prices, n, price).reached();
+    NumberAnswer::Is(walks::total(quantities, reached))
 }
 
 // The smallest gap on either side, of `n` bids and `m` asks; 10 where neither side has two levels.

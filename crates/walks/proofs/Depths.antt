@@ -1,4 +1,4 @@
--- The quantity at a price: whether there is one, what Set and Remove make of it, and what the search says of it.
+-- The quantity at a price: whether there is one, what Set and Remove make of it, and what the search says of it and of the levels up to the price.
 use Prim.Native.Nat.{ℕ, suc, _+_, _-_, _≤_}
 use native.Mathlib.Nat.{sub-zero}
 use native.Mathlib.Omega.{arith}
@@ -6,17 +6,21 @@ use mathlib.Core.Path.{_≡_, refl, ap, sym, _∙_}
 use mathlib.Core.Bool.{Bool, true, false, cond, true≢false, false≢true}
 use mathlib.Core.List.{List, [], _∷_}
 use lib.Dec.{eqb}
-use lib.ListN.{getD}
+use lib.ListN.{take, getD}
 use borrow.Author.Tests.{eqb-true, eqb-false, ne-eqb}
 use Rattle.types.specs.Replies.{Reply, done, refused}
 use Rattle.types.specs.declared.Side.{Side}
 use Rattle.types.specs.declared.PriceLevel.{PriceLevel}
 use Rattle.levels.specs.declared.Place.the-variants.{At, Before}
 use Rattle.levels.specs.Order.{aheadOf, leads, inOrder, placeFrom}
+use Rattle.levels.specs.Found.{reachedIn}
 use Rattle.levels.specs.Table.{pricesOf, quantitiesOf}
 use Rattle.levels.specs.Change.{setLevel, removeLevel}
-use Rattle.walks.specs.Walk.{has, depthOf}
-use Rattle.levels.proofs.Orders.{ahead-or, ahead-not-same, ordered, leads-on}
+use Rattle.walks.specs.Walk.{upTo, has, depthOf}
+use Rattle.types.proofs.Booleans.{by}
+use Rattle.levels.proofs.Orders.{ahead-not-self, ahead-or, ahead-not-same, ahead-not-back, ordered, leads-on}
+use Rattle.levels.proofs.Places.{place-next}
+use Rattle.levels.proofs.Found.{reached-next}
 
 -- a price is there exactly where its quantity is answered
 
@@ -134,6 +138,28 @@ depth-before s p k i (l ∷ ls) h e =
       ]
     ] in
     go (eqb (l .price) p) (aheadOf s (l .price) p) refl refl e
+
+-- the levels at the price or ahead of it are as many as it reaches
+
+none-up-to : (s : Side) (p : ℕ) (ls : List PriceLevel) → leads s p (pricesOf ls) ≡ true → inOrder s (pricesOf ls) ≡ true → upTo s p ls ≡ []
+unfolding upTo leads
+none-up-to s p [] f h = refl
+none-up-to s p (l ∷ ls) f h =
+    let o = ordered s (l .price) (pricesOf ls) h in
+    rw f (none-up-to s p ls (leads-on s p (l .price) (pricesOf ls) f (o .lead)) (o .rest))
+
+pub up-to-found : (s : Side) (p : ℕ) (ls : List PriceLevel) → inOrder s (pricesOf ls) ≡ true → upTo s p ls ≡ take (reachedIn (placeFrom s p 0 (pricesOf ls))) ls
+unfolding upTo placeFrom leads
+up-to-found s p [] h = refl
+up-to-found s p (l ∷ ls) h =
+    let x = l .price in
+    let o = ordered s x (pricesOf ls) h in
+    by (aheadOf s x p)
+    (λ a. rw (a, ne-eqb x p (ahead-not-same s x p a), ahead-not-back s x p a, place-next s p (pricesOf ls) 0, reached-next) (rw (up-to-found s p ls (o .rest))))
+    (λ a.
+    by (eqb x p)
+    (λ e. let q = eqb-true x p e in rw (e, q, ahead-not-self s p, none-up-to s p ls (rw q at (o .lead)) (o .rest)))
+    (λ e. rw (e, a) (none-up-to s p (l ∷ ls) (ahead-or s x p (eqb-false x p e) a) h)))
 
 -- the same of whether the price is there
 

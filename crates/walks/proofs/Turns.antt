@@ -3,16 +3,13 @@ use Prim.Native.Nat.{ℕ, _+_, _-_, _*_, _≤_, _<_, min}
 use native.Mathlib.Nat.{eq-or-lt-of-le}
 use native.Mathlib.Omega.{arith}
 use mathlib.Core.Path.{_≡_}
-use mathlib.Core.Bool.{true, false}
 use mathlib.Core.Logic.{⊎-elim}
 use mathlib.Core.List.{List, [], _∷_}
 use lib.ListN.{length, take, drop, getD}
 use borrow.Author.Tests.{le-leb, lt-leb}
-use Rattle.types.specs.declared.Side.{Side}
 use Rattle.types.specs.declared.PriceLevel.{PriceLevel}
-use Rattle.levels.specs.Order.{aheadOf}
 use Rattle.levels.specs.Table.{level, levels, rows}
-use Rattle.walks.specs.Walk.{sumOf, totalOf, upTo, costOf, reachFrom, distance, gapsFrom, gapsOf, leastFrom}
+use Rattle.walks.specs.Walk.{sumOf, totalOf, costOf, reachFrom, distance, gapsFrom, gapsOf, leastFrom}
 use Rattle.levels.proofs.Rows.{run-cons, run-end}
 use Rattle.levels.proofs.Tables.{Sized, levels-cons, levels-end}
 
@@ -66,19 +63,6 @@ module _ (p q : List ℕ) (n : ℕ) (w : Lent p q n) (i : ℕ) where
 
 -- what a turn does to each answer
 module _ (p q : List ℕ) (n : ℕ) (w : Lent p q n) (i : ℕ) where
-  module _ (s : Side) (price : ℕ) where
-    pub up-to-in : i < n → aheadOf s price (getD p i 0) ≡ false → totalOf (upTo s price (rest p q n i)) ≡ getD q i 0 + totalOf (upTo s price (rest p q n (i + 1)))
-    unfolding sumOf upTo
-    up-to-in h e = rw (level-turn p q n w i h, e)
-
-    pub up-to-out : i < n → aheadOf s price (getD p i 0) ≡ true → totalOf (upTo s price (rest p q n i)) ≡ totalOf (upTo s price (rest p q n (i + 1)))
-    unfolding upTo
-    up-to-out h e = rw (level-turn p q n w i h, e)
-
-    pub up-to-end : n ≤ i → totalOf (upTo s price (rest p q n i)) ≡ 0
-    unfolding sumOf upTo
-    up-to-end h = rw (level-end p q n w i h)
-
   pub total-turn : i < n → totalOf (rest p q n i) ≡ getD q i 0 + totalOf (rest p q n (i + 1))
   unfolding sumOf
   total-turn h = rw (level-turn p q n w i h)

@@ -9,13 +9,11 @@ use lib.Dec.{leb, eqb}
 use lib.ListN.{length, take}
 use borrow.Author.Tests.{leb-true, leb-false, eqb-true, eq-eqb}
 use Rattle.types.specs.Limits.{isPrice, isQuantity, maxPrice, maxQuantity, maxLevels, maxVolume}
-use Rattle.types.specs.declared.Side.{Side}
 use Rattle.types.specs.declared.PriceLevel.{PriceLevel}
 use Rattle.levels.specs.declared.Levels.{Levels}
-use Rattle.levels.specs.Order.{aheadOf}
 use Rattle.levels.specs.Table.{quantitiesOf, levels}
 use Rattle.levels.specs.Formed.{every, inLimits}
-use Rattle.walks.specs.Walk.{sumOf, totalOf, upTo, costOf, reachFrom, has}
+use Rattle.walks.specs.Walk.{sumOf, totalOf, costOf, reachFrom, has}
 use Rattle.levels.proofs.Tables.{levels-quantities}
 use Rattle.walks.proofs.Turns.{Lent}
 
@@ -59,13 +57,6 @@ module _ (t : Levels) (w : Lent (t .prices) (t .quantities) (t .count)) where
   -- the best k levels
   pub total-best : (k : ℕ) → totalOf (take k (levels t)) ≡ sumOf (take k (take (t .count) (t .quantities)))
   total-best k = rw (map-take (λ (l : PriceLevel). l .quantity) k (levels t), quantities-rows)
-
-pub total-up-to : (s : Side) (p : ℕ) (ls : List PriceLevel) → totalOf (upTo s p ls) ≤ totalOf ls
-unfolding sumOf upTo
-total-up-to s p [] = omega arith
-total-up-to s p (l ∷ ls) =
-    let r = total-up-to s p ls in
-    elim (aheadOf s p (l .price)) as (λ u. totalOf (cond u (upTo s p ls) (l ∷ upTo s p ls)) ≤ l .quantity + totalOf ls) [ true ↦ omega arith | false ↦ omega arith ]
 
 -- bounds, from any test that keeps a level's quantity or price at most m
 

@@ -4,9 +4,7 @@ ghost use mathlib.Core.Path.{_≡_};
 ghost use Prim.Native.Nat.{_≤_, _<_};
 ghost use lib.ListN.{length, take};
 ghost use Rattle.levels.specs.Table.{levels, rows};
-ghost use Rattle.walks.specs.Walk.{sumOf, totalOf, upTo, fillOf, reachFrom, distance as distanceOf, gapsOf, leastFrom};
-use levels::search::ahead;
-use types::Side;
+ghost use Rattle.walks.specs.Walk.{sumOf, fillOf, reachFrom, distance as distanceOf, gapsOf, leastFrom};
 
 // What filling a target comes to: its cost, or that there is too little.
 pub enum Filling {
@@ -31,28 +29,6 @@ pub fn total(quantities: &[u32; 128], n: usize) -> u64
     while place < n {
         sum += wide(quantities[place]);
         place += 1;
-    }
-    sum
-}
-
-// The quantity of the levels at `price` or ahead of it.
-pub fn total_up_to<'a>(
-    side: Side,
-    prices: &'a [u32; 128],
-    quantities: &'a [u32; 128],
-    n: usize,
-    price: u32,
-) -> u64
-    requires { ⌜ (length (now prices) ≡ 128) × (length (now quantities) ≡ 128) × (n ≤ 128) ⌝ }
-    ensures { λ r. ⌜ r ≡ totalOf (upTo side price (levels (rows (now (prices .entry)) (now (quantities .entry)) n))) ⌝ }
-{
-    let mut sum: u64 = 0;
-    let mut i: usize = 0;
-    while i < n {
-        if !ahead(side, price, prices[i]) {
-            sum += wide(quantities[i]);
-        }
-        i += 1;
     }
     sum
 }
