@@ -1,8 +1,9 @@
 -- The levels from lo to hi are a run of the side: how many they are, and where they begin.
-use Prim.Native.Nat.{ℕ, _+_, _≤_}
+use Prim.Native.Nat.{ℕ, _+_, _-_, _≤_}
 use native.Mathlib.Omega.{arith}
-use mathlib.Core.Path.{_≡_, refl, sym}
-use mathlib.Core.Bool.{true, false, and-eq-true-iff}
+use native.Mathlib.Nat.{add-comm}
+use mathlib.Core.Path.{_≡_, refl, ap, sym}
+use mathlib.Core.Bool.{Bool, true, false, and-eq-true-iff}
 use mathlib.Core.List.{List, [], _∷_, map}
 use lib.Dec.{leb, ltb}
 use lib.ListN.{length, take, drop, length-map}
@@ -12,10 +13,13 @@ use Rattle.types.specs.declared.Side.{Side}
 use Rattle.types.specs.declared.Side.the-variants.{Bid, Ask}
 use Rattle.types.specs.declared.PriceLevel.{PriceLevel}
 use Rattle.types.proofs.Booleans.{by}
-use Rattle.levels.specs.Order.{aheadOf, leads, inOrder, countAhead}
+use Rattle.levels.specs.Order.{aheadOf, leads, inOrder, countAhead, placeFrom}
+use Rattle.levels.specs.Found.{aheadIn, reachedIn}
 use Rattle.levels.specs.Table.{level, pricesOf}
 use Rattle.levels.proofs.Orders.{ahead-trans, ordered, none-ahead}
+use Rattle.levels.proofs.Found.{reached-few, ahead-found, behind-found}
 use Rattle.listings.specs.Listed.{between, isRange}
+use Rattle.listings.specs.Inner.Plans.{run, none, taking, runBetween, rangeRuns}
 
 -- the test of a range's ends
 pub range-order : (lo hi : ℕ) → isRange lo hi ≡ true → lo ≤ hi
@@ -47,6 +51,35 @@ outside-few lo hi h ps =
     let ls = map (λ p. level p 0) ps in
     let e = rw (with-prices ps, length-map ps (λ p. level p 0)) at (between-count lo hi h ls) in
     omega arith
+
+-- the places of the two ends say behind how many a run begins, and how many lie between; o is the other side
+run-found :
+    (s o : Side) → ((a b : ℕ) → aheadOf o a b ≡ aheadOf s b a) → (first last : ℕ) (turned : Bool) (ps : List ℕ) → inOrder s ps ≡ true →
+    (k : ℕ) → k ≡ countAhead o last ps + countAhead s first ps →
+    runBetween s first last turned ps ≡ run (countAhead s first ps) (length ps - k) turned
+run-found s o turn first last turned ps h k e =
+    let d : reachedIn (placeFrom s last 0 ps) - countAhead s first ps ≡ length ps - k = omega (arith, behind-found s o turn last ps h) in
+    rw (sym (ahead-found s first ps h), d)
+
+module _ (s : Side) (lo hi : ℕ) (ps : List ℕ) (h : inOrder s ps ≡ true) (r : isRange lo hi ≡ true) where
+  pub bids-found : s ≡ Bid → taking (runBetween s hi lo true ps) none ≡ rangeRuns s lo hi ps
+  bids-found e = rw (e, r) (ap (λ b. taking b none) (run-found Bid Ask (λ a b. refl) hi lo true ps (rw e at h) _ refl))
+
+  pub asks-found : s ≡ Ask → taking none (runBetween s lo hi false ps) ≡ rangeRuns s lo hi ps
+  asks-found e = rw (e, r) (ap (λ a. taking none a) (run-found Ask Bid (λ a b. refl) lo hi false ps (rw e at h) _ (add-comm (countAhead Ask lo ps) (countAhead Bid hi ps))))
+
+-- the run is not longer than the row, and it does not end before it begins
+pub run-few :
+    (s : Side) (first last : ℕ) (xs : List ℕ) (n : ℕ) → reachedIn (placeFrom s last 0 (take n xs)) - aheadIn (placeFrom s first 0 (take n xs)) ≤ n
+run-few s first last xs n = omega (arith, reached-few s last xs n)
+
+pub ends-apart :
+    (s : Side) (first last : ℕ) (ps : List ℕ) → inOrder s ps ≡ true → aheadOf s last first ≡ false →
+    aheadIn (placeFrom s first 0 ps) ≤ reachedIn (placeFrom s last 0 ps)
+ends-apart Bid first last ps h e =
+    omega (arith, outside-few last first (ltb-false _ _ e) ps, ahead-found Bid first ps h, behind-found Bid Ask (λ a b. refl) last ps h)
+ends-apart Ask first last ps h e =
+    omega (arith, outside-few first last (ltb-false _ _ e) ps, ahead-found Ask first ps h, behind-found Ask Bid (λ a b. refl) last ps h)
 
 -- the ends of a range, the one that comes first on a side and the one that comes last
 abbrev pub near : Side → ℕ → ℕ → ℕ

@@ -1,15 +1,17 @@
 // What a listing takes of a book: a run of each side, and the answer. A refusal takes nothing, so that it is written without a question, and
 // fits any buffer: 11 comes last.
 ghost use mathlib.Core.Path.{_≡_};
+ghost use mathlib.Core.Bool.{true, false};
 ghost use Prim.Native.Nat.{_≤_, min};
 ghost use lib.ListN.{length, take};
+ghost use Rattle.levels.specs.Order.{aheadOf, inOrder};
 ghost use Rattle.orderbook.specs.Lent.{lentBook};
 ghost use Rattle.listings.specs.Listed.{isRange, numbersOf};
-ghost use Rattle.listings.specs.Inner.Plans.{nothing, taking, inRoom, bestRuns, rangeRuns, Plans};
+ghost use Rattle.listings.specs.Inner.Plans.{nothing, taking, inRoom, bestRuns, runBetween, rangeRuns, Plans};
 use crate::Listing;
 use crate::run::Run;
 use deltas::Counts;
-use levels::search::count_ahead;
+use levels::search::find;
 use orderbook::rows;
 use types::NumberAnswer;
 use types::Price;
@@ -104,35 +106,38 @@ fn is_range(lo: Price, hi: Price) -> bool
     lo <= hi
 }
 
-// The levels from `lo` to `hi` of a side with `n` prices, upward. One look finds those below and those above: they say how many lie between, and
-// after which of them.
+// The levels from the price `first` to the price `last`, which is not ahead of it, of a side with `n` prices.
+fn run_between(
+    side: Side,
+    prices: &[u32; 128],
+    n: usize,
+    first: Price,
+    last: Price,
+    turned: bool,
+) -> Run
+    requires { ⌜ (length (now prices) ≡ 128) × (n ≤ 128) × (inOrder side (take n (now prices)) ≡ true) × (aheadOf side last first ≡ false) ⌝ }
+    ensures { λ r. ⌜ r ≡ runBetween side first last turned (take n (now (prices .entry))) ⌝ }
+{
+    let from = find(side, prices, n, first).ahead();
+    let end = find(side, prices, n, last).reached();
+    Run {
+        from,
+        count: end - from,
+        turned,
+    }
+}
+
+// The levels from `lo` to `hi` of a side with `n` prices, upward: bids come the other way round.
 fn range_runs(side: Side, prices: &[u32; 128], n: usize, lo: Price, hi: Price) -> Plan
-    requires { ⌜ (length (now prices) ≡ 128) × (n ≤ 128) ⌝ }
+    requires { ⌜ (length (now prices) ≡ 128) × (n ≤ 128) × (inOrder side (take n (now prices)) ≡ true) ⌝ }
     ensures { λ r. ⌜ r ≡ rangeRuns side lo hi (take n (now (prices .entry))) ⌝ }
 {
     if !is_range(lo, hi) {
         return nothing(Refusal::OutOfLimits);
     }
-    let below = count_ahead(Side::Ask, prices, n, lo);
-    let above = count_ahead(Side::Bid, prices, n, hi);
-    let count = n - (below + above);
     match side {
-        Side::Bid => taking(
-            Run {
-                from: above,
-                count,
-                turned: true,
-            },
-            NONE,
-        ),
-        Side::Ask => taking(
-            NONE,
-            Run {
-                from: below,
-                count,
-                turned: false,
-            },
-        ),
+        Side::Bid => taking(run_between(side, prices, n, hi, lo, true), NONE),
+        Side::Ask => taking(NONE, run_between(side, prices, n, lo, hi, false)),
     }
 }
 

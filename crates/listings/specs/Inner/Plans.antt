@@ -14,7 +14,8 @@ use Rattle.types.specs.declared.Refusal.{Refusal}
 use Rattle.types.specs.declared.Refusal.the-variants as R
 use Rattle.types.specs.declared.NumberAnswer.the-variants as N
 use Rattle.types.specs.declared.PriceLevel.{PriceLevel}
-use Rattle.levels.specs.Order.{countAhead}
+use Rattle.levels.specs.Order.{countAhead, placeFrom}
+use Rattle.levels.specs.Found.{aheadIn, reachedIn}
 use Rattle.deltas.specs.declared.Counts.{Counts}
 use Rattle.orderbook.specs.declared.OrderBook.{OrderBook}
 use Rattle.orderbook.specs.Inner.Long.{Long}
@@ -50,6 +51,10 @@ inRoom room p = cond (leb (placesOf (p .bids) (p .asks)) room) p (nothing R.NoRo
 -- the best so many bids and asks, as far as there are any
 abbrev pub bestRuns : ℕ → ℕ → Counts → Plan
 bestRuns bids asks c = taking (run 0 (min bids (c .bids)) false) (run 0 (min asks (c .asks)) false)
+
+-- the run from the first price to the last, which is not ahead of it, among a side's prices
+abbrev pub runBetween : Side → ℕ → ℕ → Bool → List ℕ → Run
+runBetween s first last turned ps = run (aheadIn (placeFrom s first 0 ps)) (reachedIn (placeFrom s last 0 ps) - aheadIn (placeFrom s first 0 ps)) turned
 
 -- the run behind the prices above a range, or below it, of n prices
 abbrev pub rangeRun : Side → ℕ → ℕ → ℕ → Plan

@@ -11,7 +11,7 @@ use Rattle.levels.specs.Table.{rows}
 use Rattle.orderbook.specs.declared.OrderBook.{OrderBook}
 use Rattle.orderbook.specs.Book.{ofSide, sideOf}
 use Rattle.orderbook.specs.Lent.{bookAt}
-use Rattle.orderbook.proofs.Books.{Tested, tested, picked-rows, picked}
+use Rattle.orderbook.proofs.Books.{Tested, tested, picked-rows, picked-order, picked}
 use Rattle.listings.specs.Listed.{listed}
 use Rattle.listings.proofs.Listings.{not-listed, best-plans, bids-plans, range-plans}
 use Rattle.listings.proofs.Plans.{nothing-plans}
@@ -66,8 +66,9 @@ plan-of-spec =
     (λ c κs. search needs)
     (λ c κs.
     let l = c .before .before .before in
-    let w = picked-rows (book (l .before .before)) (l .listing3 .given .0 .0) (there c) in
-    (w .long-prices, w .few))
+    let b = book (l .before .before) in
+    let w = picked-rows b (l .listing3 .given .0 .0) (there c) in
+    (w .long-prices, w .few, picked-order b (l .listing3 .given .0 .0) (there c)))
     (λ c.
     let m = c .before in
     let l = m .before .before .before in

@@ -1,35 +1,22 @@
--- `plan::range_runs` meets its contract: what is neither below nor above is the run, and it begins behind the one or the other.
-use Prim.Native.Nat.{ℕ, _+_, _≤_}
+-- `plan::range_runs` meets its contract: the run from the end that comes first on the side to the other is what is neither below nor above.
 use native.Mathlib.Omega.{arith}
+use native.Mathlib.Nat.{le-trans}
 use mathlib.Core.Path.{_≡_}
-use mathlib.Core.Bool.{true}
-use mathlib.Core.List.{List}
-use lib.ListN.{length, take}
-use lib.Seq.{length-take-le}
+use mathlib.Core.Bool.{true, false}
+use lib.Dec.{ltb}
 use borrow.Author.Needs.{needs}
+use borrow.Author.Tests.{le-ltb}
 use Rattle.types.proofs.Booleans.{passed, failed}
 use Rattle.listings.specs.Listed.{isRange}
-use Rattle.listings.proofs.Ranges.{range-order, outside-few}
+use Rattle.listings.proofs.Ranges.{range-order, bids-found, asks-found, run-few}
 use Rattle.listings.proofs.plan.range_runs.Statement.{statement}
 use Rattle.listings.proofs.plan.range_runs.Tie as tie
 
 range : (c : tie.Else1) → let a = c .before .before .args in isRange (a .lo) (a .hi) ≡ true
 range c = passed (c .before .is-range .ensures) (c .if1 .left)
 
--- the prices of the side
-abbrev prices : tie.Start → List ℕ
-prices c = take (c .args .n) (c .args .prices .now)
-
-all : (c : tie.Start) → length (prices c) ≡ c .args .n
-all c = length-take-le (c .args .n) (c .args .prices .now) (omega (arith, c .pre .0, c .pre .1))
-
-few : (c : tie.After-count-ahead2) → c .before .count-ahead .result + c .count-ahead2 .result ≤ c .before .before .before .before .args .n
-few c =
-    let e = c .before .before in
-    let s = e .before .before in
-    let a = s .args in
-    rw (c .before .count-ahead .ensures, c .count-ahead2 .ensures)
-    (rw (all s) at (outside-few (a .lo) (a .hi) (range-order (a .lo) (a .hi) (range e)) (prices s)))
+apart : (c : tie.Else1) → let a = c .before .before .args in ltb (a .hi) (a .lo) ≡ false
+apart c = let a = c .before .before .args in le-ltb (a .hi) (a .lo) (range-order (a .lo) (a .hi) (range c))
 
 pub range-runs-spec : {M : Type 1} → statement M
 range-runs-spec =
@@ -38,21 +25,23 @@ range-runs-spec =
     (λ c κs. search needs)
     (λ c κs. search needs)
     (λ c. rw (c .nothing .ensures, failed (c .before .before .is-range .ensures) (c .before .if1 .taken)))
-    (λ c κs. search needs)
-    (λ c κs. search needs)
-    (λ c. record { fits = omega (arith, few c) })
-    (λ c. omega (arith, few c))
     (λ c. search needs)
-    (λ c κs. search needs)
+    (λ c κs.
+    let e = c .before .before in
+    let w = e .before .before .pre in
+    (w .0, w .1, w .2, rw (c .enum-told .given .1) (apart e)))
+    (λ c κs. (rw (c .run-between .ensures) (le-trans (run-few _ _ _ _ _) (c .before .before .before .before .before .pre .1)), omega arith))
     (λ c. search needs)
-    (λ c κs. search needs)
+    (λ c κs.
+    let e = c .before .before in
+    let w = e .before .before .pre in
+    (w .0, w .1, w .2, rw (c .enum-told2 .given .1) (apart e)))
+    (λ c κs. (omega arith, rw (c .run-between2 .ensures) (le-trans (run-few _ _ _ _ _) (c .before .before .before .before .before .pre .1))))
     (λ c.
-    let d = c .before .before .before in
-    let e = d .before .before in
-    let s = e .before .before in
-    rw (c .taking .ensures, c .before .enum-told .given .1, range e, d .count-ahead2 .ensures, d .before .count-ahead .ensures, all s))
+    let m = c .before .before in
+    let e = m .before .before in
+    rw (c .taking .ensures, c .before .run-between .ensures) (bids-found _ _ _ _ (e .before .before .pre .2) (range e) (m .enum-told .given .1)))
     (λ c.
-    let d = c .before .before .before in
-    let e = d .before .before in
-    let s = e .before .before in
-    rw (c .taking2 .ensures, c .before .enum-told2 .given .1, range e, d .count-ahead2 .ensures, d .before .count-ahead .ensures, all s)))
+    let m = c .before .before in
+    let e = m .before .before in
+    rw (c .taking2 .ensures, c .before .run-between2 .ensures) (asks-found _ _ _ _ (e .before .before .pre .2) (range e) (m .enum-told2 .given .1))))
