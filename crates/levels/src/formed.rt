@@ -50,12 +50,16 @@ fn count_steps(side: Side, prices: &[u32; 128], n: usize) -> usize
     count as usize
 }
 
-// Whether each of the first `n` prices is, turned, ahead of the next.
+// Whether each of the first `n` prices is, turned, ahead of the next. Each arm names its side, so that the compiler makes a loop for each, in
+// which nothing asks for the side.
 fn ordered(side: Side, prices: &[u32; 128], n: usize) -> bool
     requires { ⌜ (length (now prices) ≡ 128) × (n ≤ 128) × (0 < n) ⌝ }
     ensures { λ r. ⌜ r ≡ inOrder side (take n (map (λ x. bitXor x (2 ^ 31)) (now (prices .entry)))) ⌝ }
 {
-    count_steps(side, prices, n) == n - 1
+    match side {
+        Side::Bid => count_steps(Side::Bid, prices, n) == n - 1,
+        Side::Ask => count_steps(Side::Ask, prices, n) == n - 1,
+    }
 }
 
 // Whether the first `n` prices are in order and in the limits. Turned prices in order lie between the first and the last, so these two are
