@@ -5,6 +5,7 @@ ghost use mathlib.Core.Bool.{true, _&&_};
 ghost use mathlib.Core.List.{map};
 ghost use Prim.Native.Nat.{_≤_, _<_, _^_};
 ghost use lib.Bits.{bitXor};
+ghost use lib.Dec.{eqb};
 ghost use lib.ListN.{length, take, drop};
 ghost use Rattle.types.specs.Limits.{within, maxPrice, maxQuantity};
 ghost use Rattle.levels.specs.Order.{aheadOf, inOrder, steps};
@@ -121,16 +122,39 @@ fn quantities_fit(row: &[u32; 128]) -> bool
     all_within(row, types::MAX_QUANTITY)
 }
 
-// Whether both rows have 0 in each place from `n` on.
+// All bits of both rows' numbers from the place `from` to the one before `to`, laid over each other: 0 where each number is.
+fn bits_between<'a>(
+    prices: &'a [u32; 128],
+    quantities: &'a [u32; 128],
+    from: usize,
+    to: usize,
+) -> u32
+    requires { ⌜ (length (now prices) ≡ 128) × (length (now quantities) ≡ 128) × (to ≤ 128) ⌝ }
+    ensures { λ r. ⌜ eqb r 0 ≡ zeros (drop from (take to (now (prices .entry)))) && zeros (drop from (take to (now (quantities .entry)))) ⌝ }
+{
+    let mut bits: u32 = 0;
+    let mut i = from;
+    while i < to {
+        bits |= prices[i] | quantities[i];
+        i += 1;
+    }
+    bits
+}
+
+// Whether both rows have 0 in each place from `n` on. A block of 8 places compiles to a few instructions and no loop: the one at `n`, and those
+// from the end down to it, of which the last may lie over it. Fewer than 8 places are tested one by one.
 fn unused_are_zero<'a>(prices: &'a [u32; 128], quantities: &'a [u32; 128], n: usize) -> bool
     requires { ⌜ (length (now prices) ≡ 128) × (length (now quantities) ≡ 128) ⌝ }
     ensures { λ r. ⌜ r ≡ zeros (drop n (now (prices .entry))) && zeros (drop n (now (quantities .entry))) ⌝ }
 {
-    let mut bits: u32 = 0;
-    let mut i = n;
-    while i < 128 {
-        bits |= prices[i] | quantities[i];
-        i += 1;
+    if 120 < n {
+        return bits_between(prices, quantities, n, 128) == 0;
+    }
+    let mut bits = bits_between(prices, quantities, n, n + 8);
+    let mut i: usize = 128;
+    while n + 8 < i {
+        i -= 8;
+        bits |= bits_between(prices, quantities, i, i + 8);
     }
     bits == 0
 }
