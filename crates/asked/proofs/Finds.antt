@@ -10,7 +10,7 @@ use Rattle.types.specs.Replies.{done, refused}
 use Rattle.types.specs.declared.Side.{Side}
 use Rattle.levels.specs.declared.Place.the-variants.{At, Before}
 use Rattle.levels.specs.Order.{inOrder, placeFrom}
-use Rattle.levels.specs.Found.{reachedIn}
+use Rattle.levels.specs.Inner.Found.{reachedIn}
 use Rattle.levels.specs.Table.{pricesOf, levels, rows}
 use Rattle.walks.specs.Walk.{sumOf, totalOf, upTo, depthOf, has}
 use Rattle.walks.proofs.Turns.{Lent}

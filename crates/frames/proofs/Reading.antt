@@ -1,11 +1,11 @@
 -- Reading is the inverse of writing: a line reads as a frame exactly where the frame is whole and the line is its own.
-use Prim.Native.Nat.{ℕ, suc, _+_, _*_, _<_, _≤_}
-use mathlib.Core.Bool.{Bool, true, false, cond, _&&_, false≢true, and-eq-true-iff, and-false}
+use Prim.Native.Nat.{ℕ, suc, _+_, _*_}
+use mathlib.Core.Bool.{Bool, true, false, cond, _&&_, false≢true, and-eq-true-iff}
 use mathlib.Core.Option.{Option, none, some}
 use mathlib.Core.Path.{_≡_, refl, sym, ap, ap₂, _∙_}
 use mathlib.Core.List.{List, [], _∷_, _++_}
 use native.Mathlib.Omega.{arith}
-use borrow.Author.Tests.{le-leb, lt-leb, eqb-true, eq-eqb, ne-eqb}
+use borrow.Author.Tests.{le-leb, eqb-true, eq-eqb}
 use lib.Dec.{eqb, leb}
 use lib.ListN.{length, drop}
 use lib.Seq.{drop-drop}
@@ -23,7 +23,7 @@ use Rattle.wire.specs.Wire.{lineFeed, digit, value, digitsOf, be, checkByte, li
 use Rattle.wire.proofs.Bytes.{spelt-be}
 use Rattle.frames.specs.Frames.{Snapshot, Frame, delta, snapshot, levelBytes, bytesOf, encode, isWhole, IsWhole}
 use Rattle.frames.specs.Decode.{deltaIn, levelsIn, snapshotIn, frameIn, same, ifLineOf, decode, deltaRead}
-use Rattle.frames.proofs.Whole.{DeltaFacts, delta-facts, whole-fits, SnapshotFacts, snapshot-facts, InWords, delta-length, snapshot-length, short}
+use Rattle.frames.proofs.Whole.{DeltaFacts, delta-facts, whole-fits, SnapshotFacts, snapshot-facts, InWords, short}
 
 -- ── the same bytes ──
 

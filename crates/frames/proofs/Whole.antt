@@ -1,6 +1,6 @@
 -- What is known of a whole frame: its numbers fit their bytes, a side has at most 128 levels, and its line at most 4,120 digits.
 use Prim.Native.Nat.{ℕ, _+_, _*_, _^_, _<_, _≤_}
-use mathlib.Core.Bool.{Bool, true, false, _&&_, and-eq-true-iff, and-true, and-assoc}
+use mathlib.Core.Bool.{Bool, true, _&&_, and-eq-true-iff, and-true, and-assoc}
 use mathlib.Core.Path.{_≡_, refl, sym, ap, _∙_}
 use mathlib.Core.List.{List, [], _∷_}
 use native.Mathlib.Omega.{arith}

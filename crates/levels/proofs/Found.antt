@@ -13,7 +13,7 @@ use Rattle.types.proofs.Booleans.{by}
 use Rattle.levels.specs.declared.Place.{Place}
 use Rattle.levels.specs.declared.Place.the-variants.{At, Before}
 use Rattle.levels.specs.Order.{aheadOf, leads, inOrder, countAhead, placeFrom}
-use Rattle.levels.specs.Found.{aheadIn, reachedIn}
+use Rattle.levels.specs.Inner.Found.{aheadIn, reachedIn}
 use Rattle.levels.proofs.Orders.{ahead-not-self, ahead-or, ahead-not-same, ahead-not-back, ordered, leads-on, none-ahead}
 use Rattle.levels.proofs.Places.{next, InList, place-next, place-in}
 

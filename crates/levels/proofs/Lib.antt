@@ -1,4 +1,5 @@
 pub mod Bits
+pub mod Counts
 pub mod Ends
 pub mod Found
 pub mod Orders

@@ -7,7 +7,7 @@ use lib.ListN.{length}
 use Rattle.types.specs.declared.Side.the-variants.{Bid, Ask}
 use Rattle.types.specs.declared.PriceLevel.{PriceLevel}
 use Rattle.levels.specs.Order.{leads, inOrder, placeFrom}
-use Rattle.levels.specs.Found.{aheadIn, reachedIn}
+use Rattle.levels.specs.Inner.Found.{aheadIn, reachedIn}
 use Rattle.levels.specs.Table.{level, pricesOf, levels, table}
 use Rattle.levels.specs.Formed.{every, wellFormed}
 use Rattle.levels.specs.Change.{setLevel, removeLevel}

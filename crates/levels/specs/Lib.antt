@@ -1,5 +1,5 @@
 pub mod Order
-pub mod Found
+pub mod Inner
 pub mod Table
 pub mod Formed
 pub mod Change

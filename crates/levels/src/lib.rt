@@ -4,7 +4,7 @@
 ghost use mathlib.Core.Path.{_≡_};
 ghost use mathlib.Core.List.{[]};
 ghost use Prim.Native.Nat.{_≤_};
-ghost use Rattle.levels.specs.Found.{aheadIn, reachedIn};
+ghost use Rattle.levels.specs.Inner.Found.{aheadIn, reachedIn};
 ghost use Rattle.levels.specs.Table.{table};
 
 pub mod search; // search.rt: which price comes first, and where a price stands or belongs

@@ -14,7 +14,7 @@ use Rattle.types.specs.declared.Side.the-variants.{Bid, Ask}
 use Rattle.types.specs.declared.PriceLevel.{PriceLevel}
 use Rattle.types.proofs.Booleans.{by}
 use Rattle.levels.specs.Order.{aheadOf, leads, inOrder, countAhead, placeFrom}
-use Rattle.levels.specs.Found.{aheadIn, reachedIn}
+use Rattle.levels.specs.Inner.Found.{aheadIn, reachedIn}
 use Rattle.levels.specs.Table.{level, pricesOf}
 use Rattle.levels.proofs.Orders.{ahead-trans, ordered, none-ahead}
 use Rattle.levels.proofs.Found.{reached-few, ahead-found, behind-found}

@@ -22,10 +22,10 @@ use Rattle.levels.specs.Table.{level, table}
 use Rattle.levels.specs.Change.{setLevel, removeLevel}
 use Rattle.levels.specs.declared.Levels.{Levels}
 use Rattle.changes.specs.declared.Step.{Step}
-use Rattle.changes.specs.declared.Step.the-variants.{Do, Refuse}
+use Rattle.changes.specs.declared.Step.the-variants.{Refuse}
 use Rattle.changes.specs.Inner.Edits.{edited, EditFits, editOf}
 use Rattle.types.proofs.Booleans.{by}
-use Rattle.levels.proofs.Tables.{Sized, Formed, formed, table-back, levels-prices, levels-few, first-row}
+use Rattle.levels.proofs.Tables.{Sized, Formed, table-back, levels-prices, levels-few, first-row}
 use Rattle.changes.proofs.Changes.{remove-length}
 use Rattle.changes.proofs.Edits.{set-fits, remove-fits, set-some, set-edited, set-full, remove-edited}
 use Rattle.orderbook.specs.declared.OrderBook.{OrderBook}

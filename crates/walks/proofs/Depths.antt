@@ -13,7 +13,7 @@ use Rattle.types.specs.declared.Side.{Side}
 use Rattle.types.specs.declared.PriceLevel.{PriceLevel}
 use Rattle.levels.specs.declared.Place.the-variants.{At, Before}
 use Rattle.levels.specs.Order.{aheadOf, leads, inOrder, placeFrom}
-use Rattle.levels.specs.Found.{reachedIn}
+use Rattle.levels.specs.Inner.Found.{reachedIn}
 use Rattle.levels.specs.Table.{pricesOf, quantitiesOf}
 use Rattle.levels.specs.Change.{setLevel, removeLevel}
 use Rattle.walks.specs.Walk.{upTo, has, depthOf}

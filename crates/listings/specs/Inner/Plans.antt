@@ -15,7 +15,7 @@ use Rattle.types.specs.declared.Refusal.the-variants as R
 use Rattle.types.specs.declared.NumberAnswer.the-variants as N
 use Rattle.types.specs.declared.PriceLevel.{PriceLevel}
 use Rattle.levels.specs.Order.{countAhead, placeFrom}
-use Rattle.levels.specs.Found.{aheadIn, reachedIn}
+use Rattle.levels.specs.Inner.Found.{aheadIn, reachedIn}
 use Rattle.deltas.specs.declared.Counts.{Counts}
 use Rattle.orderbook.specs.declared.OrderBook.{OrderBook}
 use Rattle.orderbook.specs.Inner.Long.{Long}

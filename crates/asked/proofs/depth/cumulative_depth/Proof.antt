@@ -3,7 +3,7 @@ use Prim.Native.Nat.{_≤_}
 use native.Mathlib.Nat.{le-trans}
 use borrow.Author.Needs.{needs}
 use Rattle.types.proofs.Booleans.{passed, failed}
-use Rattle.levels.specs.Found.{reachedIn}
+use Rattle.levels.specs.Inner.Found.{reachedIn}
 use Rattle.levels.proofs.Found.{reached-few}
 use Rattle.asked.proofs.Finds.{lent, reached-total}
 use Rattle.asked.proofs.depth.cumulative_depth.Statement.{statement}
