@@ -19,12 +19,26 @@ fn quantities_fit(quantities: &Row) -> bool {
     bits <= MAX_QUANTITY || quantities.iter().all(|quantity| *quantity <= MAX_QUANTITY)
 }
 
+/// The bits of both rows' places from `count` on: by blocks of 8 from the end down, with the block at `count` under the last of them.
+fn unused(prices: &Row, quantities: &Row, count: usize) -> u32 {
+    let between = |from: usize, to: usize| prices[from..to].iter().zip(&quantities[from..to]).fold(0, |bits, (price, quantity)| bits | price | quantity);
+    if count > LEVELS - 8 {
+        return between(count, LEVELS);
+    }
+    let mut bits = between(count, count + 8);
+    let mut at = LEVELS;
+    while count + 8 < at {
+        at -= 8;
+        bits |= between(at, at + 8);
+    }
+    bits
+}
+
 fn fits(prices: &Row, quantities: &Row, count: usize, ahead: impl Fn(i32, i32) -> bool) -> bool {
     if count > LEVELS {
         return false;
     }
-    let unused = prices[count..].iter().zip(&quantities[count..]).fold(0, |bits, (price, quantity)| bits | price | quantity);
-    prices_fit(&prices[..count], ahead) && unused == 0 && quantities_fit(quantities)
+    prices_fit(&prices[..count], ahead) && unused(prices, quantities, count) == 0 && quantities_fit(quantities)
 }
 
 /// Of a record by reference. A call, as of a library's function.

@@ -79,7 +79,8 @@ module _ (s : Side) (p : ℕ) (xs : List ℕ) (n : ℕ) (l : n ≤ length xs) wh
     pub run-counts : (i w : ℕ) → i + w ≤ n → EndIn s p (take n xs) i w → i + countAhead s p (drop i (take (i + w) xs)) ≡ countAhead s p (take n xs)
     run-counts i w k e = rw (← take-take (i + w) n xs k) (sym (count-run s p (take n xs) i w h e))
 
--- of k prices ahead, `from` are in those of the blocks of 16 before the one that ends at `last` whose last price is ahead too: in all of these blocks, or the others end within the next
+-- k prices are ahead, and the next block of 16 to look at ends at `last`: `from` places are in the blocks before it whose last price is ahead, and these are all the blocks before it, or those ahead end within the
+-- 16 places from there on
 abbrev pub Blocks : ℕ → ℕ → ℕ → Type 0
 Blocks k from last = (from ≤ k) × (from + 15 ≤ last) × ((from + 15 ≡ last) ⊎ (k < from + 16))
 

@@ -34,8 +34,8 @@ fn count_run(side: Side, prices: &[u32; 128], from: usize, to: usize, price: u32
     count as usize
 }
 
-// Those of 16 or more prices that are ahead of `price` end in the 16 places from this one on. They are as many as the blocks of 16 whose last price
-// is ahead, and all of them are places of prices.
+// Where a run of 16 begins in which those of 16 or more prices end that are ahead of `price`: behind the blocks of 16 whose last price is ahead, or
+// earlier, where fewer than 16 prices are left.
 fn run_start(side: Side, prices: &[u32; 128], n: usize, price: u32) -> usize
     requires { ⌜ ((length (now prices) ≡ 128) × (n ≤ 128) × (inOrder side (take n (now prices)) ≡ true)) × (16 ≤ n) ⌝ }
     ensures { λ r. ⌜ (r + 16 ≤ n) × EndIn side price (take n (now (prices .entry))) r 16 ⌝ }
