@@ -2,6 +2,7 @@
 use Prim.Native.Nat.{ℕ, zero, suc, _+_, _≤_, _<_}
 use native.Mathlib.Omega.{arith}
 use native.Mathlib.Nat.{zero-add}
+use native.Mathlib.Numerals.{add-one}
 use mathlib.Core.Path.{_≡_, refl, sym, _∙_}
 use mathlib.Core.Bool.{true, false}
 use mathlib.Core.Logic.{_⊎_, inl, inr, ⊎-elim}
@@ -15,9 +16,7 @@ use Rattle.types.proofs.Booleans.{by}
 use Rattle.levels.specs.Order.{aheadOf, inOrder, countAhead}
 use Rattle.levels.specs.Inner.Ends.{EndIn}
 use Rattle.levels.proofs.Orders.{ordered, none-ahead}
-
-both : (a b : ℕ) → ltb a b ≡ ltb (suc a) (suc b)
-both a b = by (ltb a b) (λ e. rw e (sym (lt-ltb (suc a) (suc b) (omega (arith, ltb-true a b e))))) (λ e. rw e (sym (le-ltb (suc a) (suc b) (omega (arith, ltb-false a b e)))))
+use Rattle.levels.proofs.Turned.{less-both}
 
 module _ (s : Side) (p : ℕ) where
   -- there are no more of them than prices
@@ -34,7 +33,7 @@ module _ (s : Side) (p : ℕ) where
   ahead-below (x ∷ xs) (suc i) h l =
       let o = ordered s x xs h in
       let e = ahead-below xs i (o .rest) (omega arith) in
-      by (aheadOf s x p) (λ a. rw (a, e) (both i (countAhead s p xs))) (λ a. rw (a, e, none-ahead s p x xs a h) (le-ltb i 0 (omega arith) ∙ sym (le-ltb (suc i) 0 (omega arith))))
+      by (aheadOf s x p) (λ a. rw (a, e) (rw (add-one, add-one) at (sym (less-both 1 i (countAhead s p xs))))) (λ a. rw (a, e, none-ahead s p x xs a h) (le-ltb i 0 (omega arith) ∙ sym (le-ltb (suc i) 0 (omega arith))))
 
   -- the first so many, if they are no fewer than those ahead, hold all of these
   count-front : (xs : List ℕ) (t : ℕ) → inOrder s xs ≡ true → countAhead s p xs ≤ t → countAhead s p (take t xs) ≡ countAhead s p xs

@@ -5,7 +5,7 @@ use native.Mathlib.Nat.{zero-add}
 use mathlib.Core.Path.{_≡_, refl}
 use mathlib.Core.Bool.{true}
 use mathlib.Core.List.{List, [], _∷_}
-use lib.ListN.{length, take, length-take}
+use lib.ListN.{length, take, getD, length-take}
 use lib.Dec.{eqb}
 use borrow.Author.Tests.{eqb-true, eqb-false, ne-eqb}
 use Rattle.types.specs.declared.Side.{Side}
@@ -14,14 +14,10 @@ use Rattle.levels.specs.declared.Place.{Place}
 use Rattle.levels.specs.declared.Place.the-variants.{At, Before}
 use Rattle.levels.specs.Order.{aheadOf, leads, inOrder, countAhead, placeFrom}
 use Rattle.levels.specs.Inner.Found.{aheadIn, reachedIn}
-use Rattle.levels.proofs.Orders.{ahead-not-self, ahead-or, ahead-not-same, ahead-not-back, ordered, leads-on, none-ahead}
+use Rattle.levels.proofs.Orders.{ahead-not-self, ahead-or, ahead-not-same, ahead-not-back, ordered, leads-on, counted}
 use Rattle.levels.proofs.Places.{next, InList, place-next, place-in}
 
 -- counted from one further in front, one more
-ahead-next : (w : Place) → aheadIn (next w) ≡ suc (aheadIn w)
-ahead-next (At i) = refl
-ahead-next (Before i) = refl
-
 pub reached-next : (w : Place) → reachedIn (next w) ≡ suc (reachedIn w)
 reached-next (At i) = omega arith
 reached-next (Before i) = refl
@@ -37,12 +33,7 @@ module _ (s : Side) (p : ℕ) where
 
   -- those ahead
   pub ahead-found : (xs : List ℕ) → inOrder s xs ≡ true → countAhead s p xs ≡ aheadIn (placeFrom s p 0 xs)
-  unfolding countAhead placeFrom
-  ahead-found [] h = refl
-  ahead-found (x ∷ xs) h =
-      by (aheadOf s x p)
-      (λ a. rw (a, ne-eqb x p (ahead-not-same s x p a), place-next s p xs 0, ahead-next, ahead-found xs (ordered s x xs h .rest)))
-      (λ a. rw (a, none-ahead s p x xs a h) (by (eqb x p) (λ e. rw e) (λ e. rw e)))
+  ahead-found xs h = let k = countAhead s p xs in rw (counted s p xs 0 h, zero-add) (by (eqb (getD xs k (suc p)) p) (λ e. rw e) (λ e. rw e))
 
 -- those behind: they are ahead on the other side o, where prices come the other way round
 module _ (s o : Side) (turn : (a b : ℕ) → aheadOf o a b ≡ aheadOf s b a) (p : ℕ) where

@@ -65,7 +65,7 @@ module _ (s : Side) (p : ℕ) where
       by (aheadOf s y p) (λ b. absurd (false≢true (sym a ∙ ahead-trans s x y p (o .lead) b))) (λ b. rw b (none-ahead y ys b (o .rest)))
 
   -- p stands or belongs where the prices ahead of it end
-  counted : (xs : List ℕ) (i : ℕ) → inOrder s xs ≡ true → placeFrom s p i xs ≡ cond (eqb (getD xs (countAhead s p xs) (suc p)) p) (At (i + countAhead s p xs)) (Before (i + countAhead s p xs))
+  pub counted : (xs : List ℕ) (i : ℕ) → inOrder s xs ≡ true → placeFrom s p i xs ≡ cond (eqb (getD xs (countAhead s p xs) (suc p)) p) (At (i + countAhead s p xs)) (Before (i + countAhead s p xs))
   unfolding countAhead placeFrom
   counted [] i h = rw (ne-eqb (suc p) p (omega arith), add-zero)
   counted (x ∷ xs) i h =

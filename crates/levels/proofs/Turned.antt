@@ -60,7 +60,7 @@ every-turned [] = refl
 every-turned (x ∷ xs) = rw (turned-within x, every-turned xs)
 
 -- the order of prices in the limits
-less-both : (k a b : ℕ) → ltb (a + k) (b + k) ≡ ltb a b
+pub less-both : (k a b : ℕ) → ltb (a + k) (b + k) ≡ ltb a b
 less-both k a b = by (ltb a b) (λ e. rw e (lt-ltb (a + k) (b + k) (omega (arith, ltb-true a b e)))) (λ e. rw e (le-ltb (a + k) (b + k) (omega (arith, ltb-false a b e))))
 
 ahead-turned : (s : Side) (x y : ℕ) → within 1 maxPrice x ≡ true → within 1 maxPrice y ≡ true → aheadOf s (turned x) (turned y) ≡ aheadOf s x y

@@ -6,9 +6,8 @@ use mathlib.Core.List.{List, [], _∷_}
 use lib.ListN.{length}
 use Rattle.types.specs.declared.Side.the-variants.{Bid, Ask}
 use Rattle.types.specs.declared.PriceLevel.{PriceLevel}
-use Rattle.levels.specs.Order.{leads, inOrder, placeFrom}
-use Rattle.levels.specs.Inner.Found.{aheadIn, reachedIn}
-use Rattle.levels.specs.Table.{level, pricesOf, levels, table}
+use Rattle.levels.specs.Order.{leads, inOrder}
+use Rattle.levels.specs.Table.{level, levels, table}
 use Rattle.levels.specs.Formed.{every, wellFormed}
 use Rattle.levels.specs.Change.{setLevel, removeLevel}
 
@@ -38,15 +37,6 @@ formed = (refl, refl, refl, refl)
 pub back : (levels (table bids) ≡ bids) × (levels (table asks) ≡ asks) × (levels (table full) ≡ full) × (table (levels (table full)) ≡ table full)
 unfolding bids asks falling full
 back = (refl, refl, refl, refl)
-
--- how many prices are ahead of a price, and at it or ahead of it: of one that is there, and of one that is not
-pub places :
-    (aheadIn (placeFrom Bid 99 0 (pricesOf bids)) ≡ 1) ×
-    (reachedIn (placeFrom Bid 99 0 (pricesOf bids)) ≡ 2) ×
-    (aheadIn (placeFrom Ask 102 0 (pricesOf asks)) ≡ 1) ×
-    (reachedIn (placeFrom Ask 102 0 (pricesOf asks)) ≡ 1)
-unfolding bids asks placeFrom
-places = (refl, refl, refl, refl)
 
 -- Set of a new price, over a price, and of quantity 0, which stays
 pub set-levels :
