@@ -1,6 +1,6 @@
 -- Nothing leaks from the account (specs/Balance.antt), proved.
 use Prim.Native.Nat.{ℕ, _+_, _≤_}
-use mathlib.Core.Path.{_≡_, refl, ap, _∙_}
+use mathlib.Core.Path.{_≡_, refl, ap, subst, _∙_}
 use mathlib.Core.Bool.{true}
 use mathlib.Core.List.{List, [], _∷_, map}
 use native.Mathlib.Omega.{arith}
@@ -15,7 +15,7 @@ use Rattle.position.specs.declared.PositionLedger.{PositionLedger}
 use Rattle.holding.specs.declared.Fill.{Fill}
 use Rattle.day.specs.Day.{dayBooked}
 use Rattle.day.proofs.Meaning.{as-singly}
-use Rattle.balance.specs.Balance.{fill, deposit, offeredAll, opened, account, deposits, Increase, increaseBy, increases, sumOver, ifLong, ifShort, longRemainders, shortRemainders, gap, NothingLeaks, GapBounded, NothingLeaksFrom, DayAsHistory}
+use Rattle.balance.specs.Balance.{Event, fill, deposit, offeredAll, opened, account, deposits, Increase, increaseBy, increases, sumOver, ifLong, ifShort, longRemainders, shortRemainders, leaving, Balances, gap, Bounds, NothingLeaks, GapBounded, FromAnyLedger, DayAsHistory}
 use Rattle.balance.proofs.Accounts.{fill-account, deposit-account}
 use Rattle.balance.proofs.Remainders.{sum-append, both-sides, increases-fit, bounded}
 
@@ -29,23 +29,39 @@ after-fill a d m n m′ n′ = rw (as-difference a, as-difference d) (simp ring 
 after-deposit : (a e d : ℤ) (m n : ℕ) → (((a +ℤ e) +ℤ d) -ℤ pos m) +ℤ pos n ≡ ((a +ℤ (e +ℤ d)) -ℤ pos m) +ℤ pos n
 after-deposit a e d m n = rw (as-difference a, as-difference e, as-difference d) (simp ring (omega (arith, difference-same)))
 
-pub nothing-leaks-from : NothingLeaksFrom
+balances : (l : PositionLedger) (es : List Event) → Balances (account l) l es
 unfolding offeredAll deposits increases sumOver
-nothing-leaks-from l [] = unmoved (account l)
-nothing-leaks-from l (fill f ∷ es) =
+balances l [] = unmoved (account l)
+balances l (fill f ∷ es) =
     let m = booked l f .ledger in
     let is = ifDone (booked l f .reply) (increaseBy f (positionAt l (f .symbol))) [] in
     let js = increases m es in
-    nothing-leaks-from m es
+    balances m es
     ∙ ap (λ (a : ℤ). ((a +ℤ deposits m es) -ℤ pos (longRemainders js)) +ℤ pos (shortRemainders js)) (fill-account l f)
     ∙ after-fill (account l) (deposits m es) (longRemainders is) (shortRemainders is) (longRemainders js) (shortRemainders js)
     ∙ rw (← sum-append (λ (i : Increase). ifLong (i .side) (i .remainder)) is js, ← sum-append (λ (i : Increase). ifShort (i .side) (i .remainder)) is js)
-nothing-leaks-from l (deposit d ∷ es) =
+balances l (deposit d ∷ es) =
     let m = deposited l d .ledger in
     let js = increases m es in
-    nothing-leaks-from m es
+    balances m es
     ∙ ap (λ (a : ℤ). ((a +ℤ deposits m es) -ℤ pos (longRemainders js)) +ℤ pos (shortRemainders js)) (deposit-account l d)
     ∙ after-deposit (account l) (ifDone (deposited l d .reply) d (pos 0)) (deposits m es) (longRemainders js) (shortRemainders js)
+
+-- without the remainders, what is left is what they come to
+apart : (a : ℤ) (m n : ℕ) → ((a -ℤ pos m) +ℤ pos n) -ℤ a ≡ pos n -ℤ pos m
+apart a m n = rw (as-difference a) (simp ring (omega (arith, difference-same)))
+
+bounds : (start : ℤ) (l : PositionLedger) (es : List Event) → Balances start l es → Bounds (leaving (increases l es)) (gap start l es)
+bounds start l es h =
+    let is = increases l es in
+    let m = longRemainders is in
+    let n = shortRemainders is in
+    let e : account (offeredAll l es) -ℤ (start +ℤ deposits l es) ≡ pos n -ℤ pos m = ap (λ (a : ℤ). a -ℤ (start +ℤ deposits l es)) h ∙ apart (start +ℤ deposits l es) m n in
+    let k : gap start l es ≤ n + m = rw e (sub-size (pos n) (pos m)) in
+    bounded is (increases-fit l es) (gap start l es) (omega (arith, k, both-sides is))
+
+pub from-any-ledger : FromAnyLedger
+from-any-ledger l es = (balances l es, bounds (account l) l es (balances l es))
 
 -- a ledger is opened with its cash and nothing else
 opened-account : (cash : ℤ) → isMoney cash ≡ true → account (opened cash) ≡ cash
@@ -53,25 +69,10 @@ unfolding created sumTo
 opened-account cash h = rw (h, opened) (rw (as-difference cash) (simp ring (omega (arith, difference-same))))
 
 pub nothing-leaks : NothingLeaks
-nothing-leaks cash es h =
-    let l = opened cash in
-    let is = increases l es in
-    nothing-leaks-from l es ∙ ap (λ (a : ℤ). ((a +ℤ deposits l es) -ℤ pos (longRemainders is)) +ℤ pos (shortRemainders is)) (opened-account cash h)
-
--- without the remainders, what is left is what they come to
-apart : (a : ℤ) (m n : ℕ) → ((a -ℤ pos m) +ℤ pos n) -ℤ a ≡ pos n -ℤ pos m
-apart a m n = rw (as-difference a) (simp ring (omega (arith, difference-same)))
+nothing-leaks cash es h = subst (λ (a : ℤ). Balances a (opened cash) es) (opened-account cash h) (balances (opened cash) es)
 
 pub gap-bounded : GapBounded
-gap-bounded cash es h =
-    let l = opened cash in
-    let is = increases l es in
-    let m = longRemainders is in
-    let n = shortRemainders is in
-    let d = cash +ℤ deposits l es in
-    let e : account (offeredAll l es) -ℤ d ≡ pos n -ℤ pos m = ap (λ (a : ℤ). a -ℤ d) (nothing-leaks cash es h) ∙ apart d m n in
-    let k : gap cash es ≤ n + m = rw e (sub-size (pos n) (pos m)) in
-    bounded is (increases-fit l es) (gap cash es) (omega (arith, k, both-sides is))
+gap-bounded cash es h = bounds cash (opened cash) es (nothing-leaks cash es h)
 
 -- fills booked one after another are a history of fills
 fills-alone : (l : PositionLedger) (fs : List Fill) → bookedAll l fs ≡ offeredAll l (map fill fs)

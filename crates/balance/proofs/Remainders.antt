@@ -74,7 +74,7 @@ both-sides (i ∷ is) = omega (arith, both-sides is, one (i .side) (i .remainder
 
 pub none-left : NoneLeft
 unfolding remainderAfter
-none-left old v n x = (refl, whole (eqb n 0))
+none-left old v n x = (whole (eqb n 0), refl)
   where
     whole : (t : Bool) → cond t 0 ((v * 0 + x * n) % (0 + n)) ≡ 0
     whole true = refl

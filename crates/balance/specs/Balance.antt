@@ -1,8 +1,8 @@
--- Nothing leaks from the account: what must balance over a whole history, for the treasurer. It is stated of what the calls are proved to
--- give and of nothing beside it: `created` is what `new` answers, `booked` what apply_fill does and `deposited` what deposit does. Proved in
--- proofs/Balance.antt.
--- Commission does not appear: a fill's commission is taken from cash and from its symbol's realized profit alike, and the one is counted less
--- the other.
+-- Nothing leaks from the account: what must balance over a whole history of fills and deposits, for the treasurer. In few words: cash, plus the
+-- positions at their averages, minus the realized profits, is the opening cash plus the deposits, but for what divisions left over.
+-- It is stated of what the calls are proved to give and of nothing beside it: `created` is what `new` answers, `booked` what apply_fill does,
+-- `deposited` what deposit does. Proved in proofs/Balance.antt.
+-- Commission does not appear: cash falls by it, and so does the symbol's realized profit, and the one is counted less the other.
 use Prim.Native.Nat.{ℕ, _+_, _<_}
 use mathlib.Core.Path.{_≡_}
 use mathlib.Core.Bool.{true, cond}
@@ -118,46 +118,47 @@ leaving (i ∷ is) = cond (eqb (i .remainder) 0) (leaving is) (i ∷ leaving is)
 
 -- ── what must balance ──
 
--- Open a ledger with any cash within its limit, and offer it any history. The account is then the opening cash plus the accepted deposits,
--- minus the remainders of accepted increases of long positions, plus those of short ones.
-abbrev pub NothingLeaks : Type 0
-NothingLeaks =
-    (cash : ℤ) (es : List Event) → isMoney cash ≡ true →
-    let l = opened cash in
+-- The account after a history is what there was at its start, plus the accepted deposits, minus the remainders of accepted increases of long
+-- positions, plus those of short ones: an average is rounded down, so that a long position stands at less than it cost, and a short one at less
+-- than it fetched.
+abbrev pub Balances : ℤ → PositionLedger → List Event → Type 0
+Balances start l es =
     let is = increases l es in
-    account (offeredAll l es) ≡ ((cash +ℤ deposits l es) -ℤ pos (longRemainders is)) +ℤ pos (shortRemainders is)
+    account (offeredAll l es) ≡ ((start +ℤ deposits l es) -ℤ pos (longRemainders is)) +ℤ pos (shortRemainders is)
 
--- the gap: how far the account is from the opening cash plus the accepted deposits
-abbrev pub gap : ℤ → List Event → ℕ
-gap cash es = natAbs (account (offeredAll (opened cash) es) -ℤ (cash +ℤ deposits (opened cash) es))
+-- the gap: how far the account is from that without the remainders
+abbrev pub gap : ℤ → PositionLedger → List Event → ℕ
+gap start l es = natAbs (account (offeredAll l es) -ℤ (start +ℤ deposits l es))
 
--- 0 where there are none, else below the sum of their new quantities' sizes
+-- 0 where there are no such increases, else below the sum of |new quantity| over them
 abbrev pub Bounds : List Increase → ℕ → Type 0
 Bounds [] n = n ≡ 0
 Bounds (i ∷ is) n = n < sumOver (λ (j : Increase). j .size) (i ∷ is)
 
+-- Open a ledger with any cash within its limit and offer it any history: it balances, from the opening cash on.
+abbrev pub NothingLeaks : Type 0
+NothingLeaks = (cash : ℤ) (es : List Event) → isMoney cash ≡ true → Balances cash (opened cash) es
+
 -- The gap is 0 where no accepted increase leaves a remainder, else below the sum of |new quantity| over those that leave one.
 abbrev pub GapBounded : Type 0
-GapBounded = (cash : ℤ) (es : List Event) → isMoney cash ≡ true → Bounds (leaving (increases (opened cash) es)) (gap cash es)
+GapBounded = (cash : ℤ) (es : List Event) → isMoney cash ≡ true → Bounds (leaving (increases (opened cash) es)) (gap cash (opened cash) es)
 
--- The same from any ledger on, and so from one evening to the next: the account moves by the deposits and the remainders of what is offered
--- after it, and by nothing else. A record that is no ledger refuses everything.
-abbrev pub NothingLeaksFrom : Type 0
-NothingLeaksFrom =
-    (l : PositionLedger) (es : List Event) →
-    let is = increases l es in
-    account (offeredAll l es) ≡ ((account l +ℤ deposits l es) -ℤ pos (longRemainders is)) +ℤ pos (shortRemainders is)
+-- Both from any ledger on, and so from one evening to the next: what there was at the start is its account. (A record that is no ledger refuses
+-- everything, and it is so of it too.)
+abbrev pub FromAnyLedger : Type 0
+FromAnyLedger = (l : PositionLedger) (es : List Event) → Balances (account l) l es × Bounds (leaving (increases l es)) (gap (account l) l es)
 
 -- A day's fills in one call are no other way in: it leaves the ledger that is left by those of its fills that were taken, each offered by
 -- itself.
 abbrev pub DayAsHistory : Type 0
 DayAsHistory = (l : PositionLedger) (fs : List Fill) → let day = dayBooked l fs in day .stands ≡ offeredAll l (map fill (take (day .taken) fs))
 
--- A fill of quantity 0 and the opening of a flat position count as increases here, and leave nothing over.
+-- The opening of a flat position counts as an increase here, and so does a fill of quantity 0 to a position that is flat or on its side; each
+-- leaves nothing over.
 abbrev pub NoneLeft : Type 0
-NoneLeft = (old average n price : ℕ) → (remainderAfter true old average 0 price ≡ 0) × (remainderAfter true 0 average n price ≡ 0)
+NoneLeft = (old average n price : ℕ) → (remainderAfter true 0 average n price ≡ 0) × (remainderAfter true old average 0 price ≡ 0)
 
--- So it makes no difference whether they count: without the increases that leave nothing every sum above is the same.
+-- So it makes no difference that they count: without the increases that leave nothing every sum above is the same.
 abbrev pub NoDifference : Type 0
 NoDifference =
     (is : List Increase) →

@@ -45,7 +45,7 @@ says cash es = (increases (opened cash) es, deposits (opened cash) es)
 
 -- what must balance: the account, and the gap
 abbrev comes : ℤ → List Event → ℤ × ℕ
-comes cash es = (account (offeredAll (opened cash) es), gap cash es)
+comes cash es = (account (offeredAll (opened cash) es), gap cash (opened cash) es)
 
 -- cash 10000: buy 3 at 100, commission 2; buy 2 at 101; sell 4 at 110, commission 1; sell 3 at 90. Of 502 over 5 lots 2 are left over, and the
 -- account is 10205 - 2·90 - 27
