@@ -1,11 +1,11 @@
 """A plain second reading of the rules of a day, in exact integers: what the day program is to print, what it is to say, and how the day ends. For
-tests/days.py."""
+tests/days.py; the ledger, with its deposits, for tests/histories.py too."""
 import re
 from typing import NamedTuple
 
 FILLS, LINE = 100_000, 4096
 U32, LARGEST, LEAST = 2**32 - 1, 2**63 - 1, -(2**63)
-PRICE, LOTS, COMMISSION, MONEY, SYMBOLS = 10**8, 10**9, 10**15, 4 * 10**18, 32
+PRICE, LOTS, COMMISSION, DEPOSIT, MONEY, SYMBOLS = 10**8, 10**9, 10**15, 10**18, 4 * 10**18, 32
 
 
 class Malformed(Exception):
@@ -96,6 +96,15 @@ class Ledger:
         if past:
             return Refusal(9, past=past)
         self.cash, self.commission, self.positions[symbol] = cash, paid, position
+        return None
+
+    def deposit(self, amount):
+        """None where the deposit is taken, else its refusal."""
+        if abs(amount) > DEPOSIT:
+            return Refusal(2)
+        if abs(self.cash + amount) > MONEY:
+            return Refusal(9)
+        self.cash += amount
         return None
 
 
