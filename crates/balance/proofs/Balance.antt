@@ -10,55 +10,45 @@ use Rattle.amount.specs.Sums.{sumTo}
 use Rattle.amount.proofs.Identities.{as-difference, difference-same, ring}
 use Rattle.amount.proofs.Integers.{sub-size}
 use Rattle.types.specs.Runs.{ifDone}
-use Rattle.position.specs.Ledger.{positionAt, isMoney, created, booked, bookedAll, deposited}
+use Rattle.position.specs.Ledger.{isMoney, created, booked, bookedAll}
 use Rattle.position.specs.declared.PositionLedger.{PositionLedger}
 use Rattle.holding.specs.declared.Fill.{Fill}
 use Rattle.day.specs.Day.{dayBooked}
 use Rattle.day.proofs.Meaning.{as-singly}
-use Rattle.balance.specs.Balance.{Event, fill, deposit, offeredAll, opened, account, deposits, Increase, increaseBy, increases, sumOver, ifLong, ifShort, longRemainders, shortRemainders, leaving, Balances, gap, Bounds, NothingLeaks, GapBounded, FromAnyLedger, DayAsHistory}
-use Rattle.balance.proofs.Accounts.{fill-account, deposit-account}
-use Rattle.balance.proofs.Remainders.{sum-append, both-sides, increases-fit, bounded}
+use Rattle.balance.specs.Balance.{Event, fill, offered, offeredAll, opened, account, depositOf, deposits, Increase, increaseOf, increases, sumOver, amongLong, amongShort, longRemainders, shortRemainders, withRemainder, Balances, gap, Bounds, NothingLeaks, GapBounded, FromAnyLedger, DayAsHistory}
+use Rattle.balance.proofs.Accounts.{unmoved, account-moves}
+use Rattle.balance.proofs.Remainders.{sum-append, both-sides, increases-small, sum-bounded}
 
--- account a, then deposits d, remainders m and n
-unmoved : (a : ℤ) → a ≡ ((a +ℤ pos 0) -ℤ pos 0) +ℤ pos 0
-unmoved a = rw (as-difference a) (simp ring (omega (arith, difference-same)))
-
-after-fill : (a d : ℤ) (m n m′ n′ : ℕ) → ((((a -ℤ pos m) +ℤ pos n) +ℤ d) -ℤ pos m′) +ℤ pos n′ ≡ ((a +ℤ d) -ℤ pos (m + m′)) +ℤ pos (n + n′)
-after-fill a d m n m′ n′ = rw (as-difference a, as-difference d) (simp ring (omega (arith, difference-same)))
-
-after-deposit : (a e d : ℤ) (m n : ℕ) → (((a +ℤ e) +ℤ d) -ℤ pos m) +ℤ pos n ≡ ((a +ℤ (e +ℤ d)) -ℤ pos m) +ℤ pos n
-after-deposit a e d m n = rw (as-difference a, as-difference e, as-difference d) (simp ring (omega (arith, difference-same)))
+-- account a, deposits d and d′, remainders m and m′ of long positions, n and n′ of short ones
+after-event : (a d d′ : ℤ) (m n m′ n′ : ℕ)
+    → (((((a +ℤ d) -ℤ pos m) +ℤ pos n) +ℤ d′) -ℤ pos m′) +ℤ pos n′ ≡ ((a +ℤ (d +ℤ d′)) -ℤ pos (m + m′)) +ℤ pos (n + n′)
+after-event a d d′ m n m′ n′ = rw (as-difference a, as-difference d, as-difference d′) (simp ring (omega (arith, difference-same)))
 
 balances : (l : PositionLedger) (es : List Event) → Balances (account l) l es
 unfolding offeredAll deposits increases sumOver
 balances l [] = unmoved (account l)
-balances l (fill f ∷ es) =
-    let m = booked l f .ledger in
-    let is = ifDone (booked l f .reply) (increaseBy f (positionAt l (f .symbol))) [] in
+balances l (e ∷ es) =
+    let m = offered l e .ledger in
+    let d = ifDone (offered l e .reply) (depositOf e) (pos 0) in
+    let is = ifDone (offered l e .reply) (increaseOf l e) [] in
     let js = increases m es in
     balances m es
-    ∙ ap (λ (a : ℤ). ((a +ℤ deposits m es) -ℤ pos (longRemainders js)) +ℤ pos (shortRemainders js)) (fill-account l f)
-    ∙ after-fill (account l) (deposits m es) (longRemainders is) (shortRemainders is) (longRemainders js) (shortRemainders js)
-    ∙ rw (← sum-append (λ (i : Increase). ifLong (i .side) (i .remainder)) is js, ← sum-append (λ (i : Increase). ifShort (i .side) (i .remainder)) is js)
-balances l (deposit d ∷ es) =
-    let m = deposited l d .ledger in
-    let js = increases m es in
-    balances m es
-    ∙ ap (λ (a : ℤ). ((a +ℤ deposits m es) -ℤ pos (longRemainders js)) +ℤ pos (shortRemainders js)) (deposit-account l d)
-    ∙ after-deposit (account l) (ifDone (deposited l d .reply) d (pos 0)) (deposits m es) (longRemainders js) (shortRemainders js)
+    ∙ ap (λ (a : ℤ). ((a +ℤ deposits m es) -ℤ pos (longRemainders js)) +ℤ pos (shortRemainders js)) (account-moves l e)
+    ∙ after-event (account l) d (deposits m es) (longRemainders is) (shortRemainders is) (longRemainders js) (shortRemainders js)
+    ∙ rw (← sum-append (λ (i : Increase). amongLong (i .side) (i .remainder)) is js, ← sum-append (λ (i : Increase). amongShort (i .side) (i .remainder)) is js)
 
 -- without the remainders, what is left is what they come to
-apart : (a : ℤ) (m n : ℕ) → ((a -ℤ pos m) +ℤ pos n) -ℤ a ≡ pos n -ℤ pos m
-apart a m n = rw (as-difference a) (simp ring (omega (arith, difference-same)))
+remainders-alone : (a : ℤ) (m n : ℕ) → ((a -ℤ pos m) +ℤ pos n) -ℤ a ≡ pos n -ℤ pos m
+remainders-alone a m n = rw (as-difference a) (simp ring (omega (arith, difference-same)))
 
-bounds : (start : ℤ) (l : PositionLedger) (es : List Event) → Balances start l es → Bounds (leaving (increases l es)) (gap start l es)
+bounds : (start : ℤ) (l : PositionLedger) (es : List Event) → Balances start l es → Bounds (withRemainder (increases l es)) (gap start l es)
 bounds start l es h =
     let is = increases l es in
     let m = longRemainders is in
     let n = shortRemainders is in
-    let e : account (offeredAll l es) -ℤ (start +ℤ deposits l es) ≡ pos n -ℤ pos m = ap (λ (a : ℤ). a -ℤ (start +ℤ deposits l es)) h ∙ apart (start +ℤ deposits l es) m n in
+    let e : account (offeredAll l es) -ℤ (start +ℤ deposits l es) ≡ pos n -ℤ pos m = ap (λ (a : ℤ). a -ℤ (start +ℤ deposits l es)) h ∙ remainders-alone (start +ℤ deposits l es) m n in
     let k : gap start l es ≤ n + m = rw e (sub-size (pos n) (pos m)) in
-    bounded is (increases-fit l es) (gap start l es) (omega (arith, k, both-sides is))
+    sum-bounded is (increases-small l es) (gap start l es) (omega (arith, k, both-sides is))
 
 pub from-any-ledger : FromAnyLedger
 from-any-ledger l es = (balances l es, bounds (account l) l es (balances l es))

@@ -10,15 +10,17 @@ use lib.IntN.{ℤ, pos, negsuc, negℤ, natAbs, _+ℤ_, _-ℤ_, _*ℤ_}
 use Rattle.amount.proofs.Identities.{as-difference, difference-same, ring}
 use Rattle.types.specs.declared.Side.{Side}
 use Rattle.types.specs.declared.Side.the-variants.{Bid, Ask}
+use Rattle.types.proofs.Booleans.{by}
 use Rattle.holding.specs.Holding.{signed, grows, gain, closedLots, averageAfter, remainderAfter, positionAfter}
 use Rattle.holding.specs.declared.Position.{Position}
 use Rattle.holding.specs.declared.Fill.{Fill}
 use Rattle.holding.proofs.Averages.{increase-exact}
 use Rattle.position.specs.Ledger.{cashAfter}
+use Rattle.balance.specs.Balance.{atAverage}
 
 -- a position's part of the account
-abbrev pub part : Position → ℤ
-part p = p .quantity .value *ℤ pos (p .average) -ℤ p .realized .value
+abbrev pub partOf : Position → ℤ
+partOf p = atAverage p -ℤ p .realized .value
 
 -- what the fill's division leaves over, with the fill's sign
 abbrev pub leftOver : Position → Fill → ℤ
@@ -48,42 +50,38 @@ module _ (c k r : ℤ) (a n v x : ℕ) where
 -- what a fill that closes does to the average, by the lots that it closes
 closing : (old v n x : ℕ) → let w = averageAfter false old v n x in old * w + n * x + min old n * v ≡ n * w + old * v + min old n * x
 unfolding averageAfter
-closing old v n x = by (eqb n 0) (ltb n old) (eqb n old) refl refl refl
+closing old v n x = cases (eqb n 0) (ltb n old) (eqb n old) refl refl refl
   where
-    by : (t u z : Bool) → eqb n 0 ≡ t → ltb n old ≡ u → eqb n old ≡ z
+    cases : (t u z : Bool) → eqb n 0 ≡ t → ltb n old ≡ u → eqb n old ≡ z
         → let w = cond t v (cond u v (cond z 0 x)) in old * w + n * x + min old n * v ≡ n * w + old * v + min old n * x
-    by true u z e f g = rw (eqb-true n 0 e, min-eq-right {n = 0} {m = old} zero-le) (omega arith)
-    by false true z e f g = rw (min-eq-right (le-of-lt (ltb-true n old f))) (omega arith)
-    by false false true e f g = rw (eqb-true n old g, min-eq-left (le-refl old)) (omega arith)
-    by false false false e f g = rw (min-eq-left (ltb-false n old f)) (omega arith)
+    cases true u z e f g = rw (eqb-true n 0 e, min-eq-right {n = 0} {m = old} zero-le) (omega arith)
+    cases false true z e f g = rw (min-eq-right (le-of-lt (ltb-true n old f))) (omega arith)
+    cases false false true e f g = rw (eqb-true n old g, min-eq-left (le-refl old)) (omega arith)
+    cases false false false e f g = rw (min-eq-left (ltb-false n old f)) (omega arith)
 
 pub closing-leaves-none : (old v n x : ℕ) → remainderAfter false old v n x ≡ 0
 unfolding remainderAfter
-closing-leaves-none old v n x = by (eqb n 0)
-  where
-    by : (t : Bool) → _≡_ {A = ℕ} (cond t 0 0) 0
-    by true = refl
-    by false = refl
+closing-leaves-none old v n x = by (eqb n 0) (λ e. rw e) (λ e. rw e)
 
 -- by side, and by the sign of the quantity
-parts : (s : Side) (q : ℤ) (v n x : ℕ) (c k r : ℤ)
+fill-moves : (s : Side) (q : ℤ) (v n x : ℕ) (c k r : ℤ)
     → let g = grows s q in
     let a = natAbs q in
     (c -ℤ (signed s (n * x) +ℤ k)) +ℤ ((q +ℤ signed s n) *ℤ pos (averageAfter g a v n x) -ℤ ((r +ℤ gain s v x *ℤ pos (closedLots g a n)) -ℤ k))
     ≡ (c +ℤ (q *ℤ pos v -ℤ r)) -ℤ signed s (remainderAfter g a v n x)
-parts Bid (pos a) v n x c k r =
+fill-moves Bid (pos a) v n x c k r =
     rw (le-ltb a 0 zero-le) (bought-more c k r a n v x (averageAfter true a v n x) (remainderAfter true a v n x) (increase-exact a v n x))
-parts Bid (negsuc a) v n x c k r =
+fill-moves Bid (negsuc a) v n x c k r =
     let b = suc a in
     rw (closing-leaves-none b v n x) (bought-back c k r b n v x (min b n) (averageAfter false b v n x) (closing b v n x))
-parts Ask (pos zero) v n x c k r = sold-more c k r 0 n v x (averageAfter true 0 v n x) (remainderAfter true 0 v n x) (increase-exact 0 v n x)
-parts Ask (pos (suc a)) v n x c k r =
+fill-moves Ask (pos zero) v n x c k r = sold-more c k r 0 n v x (averageAfter true 0 v n x) (remainderAfter true 0 v n x) (increase-exact 0 v n x)
+fill-moves Ask (pos (suc a)) v n x c k r =
     let b = suc a in
     rw (lt-ltb 0 b (suc-le-suc zero-le), closing-leaves-none b v n x) (sold-off c k r b n v x (min b n) (averageAfter false b v n x) (closing b v n x))
-parts Ask (negsuc a) v n x c k r =
+fill-moves Ask (negsuc a) v n x c k r =
     let b = suc a in
     sold-more c k r b n v x (averageAfter true b v n x) (remainderAfter true b v n x) (increase-exact b v n x)
 
-pub filled-part : (p : Position) (f : Fill) (cash : ℤ) → cashAfter cash f +ℤ part (positionAfter p f) ≡ (cash +ℤ part p) -ℤ leftOver p f
+pub filled-part : (p : Position) (f : Fill) (cash : ℤ) → cashAfter cash f +ℤ partOf (positionAfter p f) ≡ (cash +ℤ partOf p) -ℤ leftOver p f
 unfolding positionAfter
-filled-part p f cash = parts (f .side) (p .quantity .value) (p .average) (f .quantity) (f .price) cash (f .commission .value) (p .realized .value)
+filled-part p f cash = fill-moves (f .side) (p .quantity .value) (p .average) (f .quantity) (f .price) cash (f .commission .value) (p .realized .value)

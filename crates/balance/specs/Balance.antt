@@ -1,8 +1,9 @@
 -- Nothing leaks from the account: what must balance over a whole history of fills and deposits, for the treasurer. In few words: cash, plus the
 -- positions at their averages, minus the realized profits, is the opening cash plus the deposits, but for what divisions left over.
 -- It is stated of what the calls are proved to give and of nothing beside it: `created` is what `new` answers, `booked` what apply_fill does,
--- `deposited` what deposit does. Proved in proofs/Balance.antt.
--- Commission does not appear: cash falls by it, and so does the symbol's realized profit, and the one is counted less the other.
+-- `deposited` what deposit does, `dayBooked` what apply_fills does. `natAbs` is a number's size, `sumTo f n` adds up f at each number below n, and
+-- `ifDone r x y` is x where the answer r is 0, and y where it is a refusal. Proved in proofs/Balance.antt, the last two in proofs/Remainders.antt.
+-- Commission does not appear: cash falls by it, and realized profit falls by it, and the account is the one less the other.
 use Prim.Native.Nat.{ℕ, _+_, _<_}
 use mathlib.Core.Path.{_≡_}
 use mathlib.Core.Bool.{true, cond}
@@ -34,7 +35,7 @@ abbrev pub offered : PositionLedger → Event → Change
 offered l (fill f) = booked l f
 offered l (deposit d) = deposited l d
 
--- the ledger after a history: each is offered to what those before it left, and a refused one ends nothing
+-- the ledger after a history: each is offered to what those before it left; a refused one leaves that as it is, and the others follow
 unfoldable pub offeredAll : PositionLedger → List Event → PositionLedger
 offeredAll l [] = l
 offeredAll l (e ∷ es) = offeredAll (offered l e .ledger) es
@@ -45,9 +46,13 @@ opened cash = created cash .ledger
 
 -- ── what stands in the ledger ──
 
--- each position's signed quantity times its average, added up
+-- a position's signed quantity times its average
+abbrev pub atAverage : Position → ℤ
+atAverage p = p .quantity .value *ℤ pos (p .average)
+
+-- that of each position, added up
 abbrev pub heldAtAverage : PositionLedger → ℤ
-heldAtAverage l = sumTo (λ (i : ℕ). positionAt l i .quantity .value *ℤ pos (positionAt l i .average)) symbols
+heldAtAverage l = sumTo (λ (i : ℕ). atAverage (positionAt l i)) symbols
 
 -- the realized profits, added up
 abbrev pub realizedProfits : PositionLedger → ℤ
@@ -57,21 +62,25 @@ realizedProfits l = sumTo (λ (i : ℕ). positionAt l i .realized .value) symbol
 abbrev pub account : PositionLedger → ℤ
 account l = (l .cash .value +ℤ heldAtAverage l) -ℤ realizedProfits l
 
--- ── what is read from the history, from a ledger on ──
+-- ── what is read from a history that begins at a ledger; none of it stands in the ledger ──
 
--- the deposits that are accepted, added up
+-- what a deposit brings in; a fill is none
+abbrev pub depositOf : Event → ℤ
+depositOf (fill f) = pos 0
+depositOf (deposit d) = d
+
+-- the accepted deposits, added up
 unfoldable pub deposits : PositionLedger → List Event → ℤ
 deposits l [] = pos 0
-deposits l (fill f ∷ es) = deposits (booked l f .ledger) es
-deposits l (deposit d ∷ es) = ifDone (deposited l d .reply) d (pos 0) +ℤ deposits (deposited l d .ledger) es
+deposits l (e ∷ es) = ifDone (offered l e .reply) (depositOf e) (pos 0) +ℤ deposits (offered l e .ledger) es
 
--- an increase: of a long position by a Bid, of a short one by an Ask; what its division leaves over; and the size of the new quantity
+-- an increase: of a long position by a Bid, of a short one by an Ask; what (average·|old| + price·|fill|) / |new| leaves over; and |new|
 pub record Increase : Type 0 where
   pub side : Side
   pub remainder : ℕ
   pub size : ℕ
 
--- a fill to a position as an increase, if it is one; the first fill of a flat position is one
+-- a fill to a position, as an increase if it is one: the first fill of a flat position is one, a close or a turnover is none
 abbrev pub increaseBy : Fill → Position → List Increase
 increaseBy f p =
     cond (grows (f .side) (p .quantity .value)) (
@@ -82,45 +91,49 @@ increaseBy f p =
     } ∷ []
     ) []
 
--- the increases that are accepted, in order
+-- what is offered to a ledger, as an increase; a deposit is none
+abbrev pub increaseOf : PositionLedger → Event → List Increase
+increaseOf l (fill f) = increaseBy f (positionAt l (f .symbol))
+increaseOf l (deposit d) = []
+
+-- the accepted increases, in order
 unfoldable pub increases : PositionLedger → List Event → List Increase
 increases l [] = []
-increases l (fill f ∷ es) = ifDone (booked l f .reply) (increaseBy f (positionAt l (f .symbol))) [] ++ increases (booked l f .ledger) es
-increases l (deposit d ∷ es) = increases (deposited l d .ledger) es
+increases l (e ∷ es) = ifDone (offered l e .reply) (increaseOf l e) [] ++ increases (offered l e .ledger) es
 
 -- what is counted of each increase, added up
 unfoldable pub sumOver : (Increase → ℕ) → List Increase → ℕ
 sumOver counted [] = 0
 sumOver counted (i ∷ is) = counted i + sumOver counted is
 
--- what a remainder counts among those of long positions
-abbrev pub ifLong : Side → ℕ → ℕ
-ifLong Bid n = n
-ifLong Ask n = 0
+-- what a remainder counts for among those of long positions
+abbrev pub amongLong : Side → ℕ → ℕ
+amongLong Bid n = n
+amongLong Ask n = 0
 
 -- and among those of short ones
-abbrev pub ifShort : Side → ℕ → ℕ
-ifShort Bid n = 0
-ifShort Ask n = n
+abbrev pub amongShort : Side → ℕ → ℕ
+amongShort Bid n = 0
+amongShort Ask n = n
 
 -- the remainders of increases of long positions, added up
 abbrev pub longRemainders : List Increase → ℕ
-longRemainders is = sumOver (λ (i : Increase). ifLong (i .side) (i .remainder)) is
+longRemainders is = sumOver (λ (i : Increase). amongLong (i .side) (i .remainder)) is
 
 -- those of short ones, added up
 abbrev pub shortRemainders : List Increase → ℕ
-shortRemainders is = sumOver (λ (i : Increase). ifShort (i .side) (i .remainder)) is
+shortRemainders is = sumOver (λ (i : Increase). amongShort (i .side) (i .remainder)) is
 
--- the increases that leave a remainder
-unfoldable pub leaving : List Increase → List Increase
-leaving [] = []
-leaving (i ∷ is) = cond (eqb (i .remainder) 0) (leaving is) (i ∷ leaving is)
+-- those that leave a remainder
+unfoldable pub withRemainder : List Increase → List Increase
+withRemainder [] = []
+withRemainder (i ∷ is) = cond (eqb (i .remainder) 0) (withRemainder is) (i ∷ withRemainder is)
 
 -- ── what must balance ──
 
 -- The account after a history is what there was at its start, plus the accepted deposits, minus the remainders of accepted increases of long
--- positions, plus those of short ones: an average is rounded down, so that a long position stands at less than it cost, and a short one at less
--- than it fetched.
+-- positions, plus those of short ones. (An average is rounded down: a long position then stands at less than it cost, a short one at less than
+-- it fetched.)
 abbrev pub Balances : ℤ → PositionLedger → List Event → Type 0
 Balances start l es =
     let is = increases l es in
@@ -130,7 +143,7 @@ Balances start l es =
 abbrev pub gap : ℤ → PositionLedger → List Event → ℕ
 gap start l es = natAbs (account (offeredAll l es) -ℤ (start +ℤ deposits l es))
 
--- 0 where there are no such increases, else below the sum of |new quantity| over them
+-- n is 0 where there are none of these increases, else below the sum of |new quantity| over them
 abbrev pub Bounds : List Increase → ℕ → Type 0
 Bounds [] n = n ≡ 0
 Bounds (i ∷ is) n = n < sumOver (λ (j : Increase). j .size) (i ∷ is)
@@ -141,25 +154,26 @@ NothingLeaks = (cash : ℤ) (es : List Event) → isMoney cash ≡ true → Bala
 
 -- The gap is 0 where no accepted increase leaves a remainder, else below the sum of |new quantity| over those that leave one.
 abbrev pub GapBounded : Type 0
-GapBounded = (cash : ℤ) (es : List Event) → isMoney cash ≡ true → Bounds (leaving (increases (opened cash) es)) (gap cash (opened cash) es)
+GapBounded = (cash : ℤ) (es : List Event) → isMoney cash ≡ true → Bounds (withRemainder (increases (opened cash) es)) (gap cash (opened cash) es)
 
--- Both from any ledger on, and so from one evening to the next: what there was at the start is its account. (A record that is no ledger refuses
--- everything, and it is so of it too.)
+-- Both from any ledger on, and so from one evening to the next: what there was at the start is then that ledger's account. A record that is no
+-- ledger refuses everything, and they hold of it too.
 abbrev pub FromAnyLedger : Type 0
-FromAnyLedger = (l : PositionLedger) (es : List Event) → Balances (account l) l es × Bounds (leaving (increases l es)) (gap (account l) l es)
+FromAnyLedger = (l : PositionLedger) (es : List Event) → Balances (account l) l es × Bounds (withRemainder (increases l es)) (gap (account l) l es)
 
--- A day's fills in one call are no other way in: it leaves the ledger that is left by those of its fills that were taken, each offered by
--- itself.
+-- A day's fills in one call are no other way in: the call leaves what those fills that it took leave, each offered by itself.
 abbrev pub DayAsHistory : Type 0
 DayAsHistory = (l : PositionLedger) (fs : List Fill) → let day = dayBooked l fs in day .stands ≡ offeredAll l (map fill (take (day .taken) fs))
 
--- The opening of a flat position counts as an increase here, and so does a fill of quantity 0 to a position that is flat or on its side; each
--- leaves nothing over.
-abbrev pub NoneLeft : Type 0
-NoneLeft = (old average n price : ℕ) → (remainderAfter true 0 average n price ≡ 0) × (remainderAfter true old average 0 price ≡ 0)
+-- The first fill of a flat position counts as an increase here, and so does a fill of quantity 0 on the position's own side; one of quantity 0
+-- against the position counts as none. Whether it counts or not, such a fill leaves no remainder.
+abbrev pub NoRemainder : Type 0
+NoRemainder =
+    (f : Fill) (p : Position) → (p .quantity .value ≡ pos 0 → withRemainder (increaseBy f p) ≡ []) × (f .quantity ≡ 0 → withRemainder (increaseBy f p) ≡ [])
 
--- So it makes no difference that they count: without the increases that leave nothing every sum above is the same.
+-- So it makes no difference: without the increases that leave none, every sum above is the same.
 abbrev pub NoDifference : Type 0
 NoDifference =
     (is : List Increase) →
-    (longRemainders (leaving is) ≡ longRemainders is) × (shortRemainders (leaving is) ≡ shortRemainders is) × (leaving (leaving is) ≡ leaving is)
+    (longRemainders (withRemainder is) ≡ longRemainders is) × (shortRemainders (withRemainder is) ≡ shortRemainders is)
+    × (withRemainder (withRemainder is) ≡ withRemainder is)

@@ -55,6 +55,15 @@ module _ (qs : List ℤ) (ms : List ℕ) (rs : List ℤ) (w : RowsIn qs ms rs) (
         getD-set-same rs s (p .realized .value) _ (subst (λ (k : ℕ). s < k) (sym (w .realized-long)) m),
       )
 
+  -- and the other symbols' positions stay
+  pub put-elsewhere : (i : ℕ) → (i ≡ s → ⊥) → positionOf (set qs s (p .quantity .value)) (set ms s (p .average)) (set rs s (p .realized .value)) i ≡ positionOf qs ms rs i
+  put-elsewhere i other =
+      rw (
+        getD-set-other qs s i (p .quantity .value) _ other,
+        getD-set-other ms s i (p .average) 0 other,
+        getD-set-other rs s i (p .realized .value) _ other,
+      )
+
   -- within its limits, it leaves rows of positions
   pub put-fits : isPosition p ≡ true → RowsIn (set qs s (p .quantity .value)) (set ms s (p .average)) (set rs s (p .realized .value))
   put-fits h =
@@ -62,7 +71,5 @@ module _ (qs : List ℤ) (ms : List ℕ) (rs : List ℤ) (w : RowsIn qs ms rs) (
         quantities-long = length-set qs s (p .quantity .value) ∙ w .quantities-long;
         averages-long = length-set ms s (p .average) ∙ w .averages-long;
         realized-long = length-set rs s (p .realized .value) ∙ w .realized-long;
-        each = λ i n. by (eqb i s) (λ e. rw (eqb-true i s e, put-here) h) (λ e.
-            let other = eqb-false i s e in
-            rw (getD-set-other qs s i (p .quantity .value) _ other, getD-set-other ms s i (p .average) 0 other, getD-set-other rs s i (p .realized .value) _ other) (w .each i n));
+        each = λ i n. by (eqb i s) (λ e. rw (eqb-true i s e, put-here) h) (λ e. rw (put-elsewhere i (eqb-false i s e)) (w .each i n));
       }
