@@ -50,7 +50,8 @@ gathered c c′ costs profits h h′ r r′ o e =
         rw (as-difference c, as-difference costs, as-difference profits, as-difference h, as-difference r, as-difference o)
         (simp ring (omega (arith, difference-same)))
 
-filled-account : (l : PositionLedger) (f : Fill) → isLedger l ≡ true → isFill f ≡ true → account (filled l f) ≡ account l -ℤ leftOver (positionAt l (f .symbol)) f
+filled-account : (l : PositionLedger) (f : Fill) → isLedger l ≡ true → isFill f ≡ true
+    → account (filled l f) ≡ account l -ℤ leftOver (positionAt l (f .symbol)) f
 unfolding filled
 filled-account l f hl hf =
     let s = f .symbol in

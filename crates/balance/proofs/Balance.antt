@@ -46,7 +46,8 @@ bounds start l es h =
     let is = increases l es in
     let m = longRemainders is in
     let n = shortRemainders is in
-    let e : account (offeredAll l es) -ℤ (start +ℤ deposits l es) ≡ pos n -ℤ pos m = ap (λ (a : ℤ). a -ℤ (start +ℤ deposits l es)) h ∙ remainders-alone (start +ℤ deposits l es) m n in
+    let d = start +ℤ deposits l es in
+    let e : account (offeredAll l es) -ℤ d ≡ pos n -ℤ pos m = ap (λ (a : ℤ). a -ℤ d) h ∙ remainders-alone d m n in
     let k : gap start l es ≤ n + m = rw e (sub-size (pos n) (pos m)) in
     sum-bounded is (increases-small l es) (gap start l es) (omega (arith, k, both-sides is))
 

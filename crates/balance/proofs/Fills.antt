@@ -31,20 +31,24 @@ leftOver p f =
 module _ (c k r : ℤ) (a n v x : ℕ) where
   -- an increase, whose division gives the average w and leaves m
   bought-more : (w m : ℕ) → w * (a + n) + m ≡ v * a + x * n
-      → (c -ℤ (pos (n * x) +ℤ k)) +ℤ ((pos a +ℤ pos n) *ℤ pos w -ℤ ((r +ℤ (pos v -ℤ pos x) *ℤ pos 0) -ℤ k)) ≡ (c +ℤ (pos a *ℤ pos v -ℤ r)) -ℤ pos m
+      → (c -ℤ (pos (n * x) +ℤ k)) +ℤ ((pos a +ℤ pos n) *ℤ pos w -ℤ ((r +ℤ (pos v -ℤ pos x) *ℤ pos 0) -ℤ k))
+      ≡ (c +ℤ (pos a *ℤ pos v -ℤ r)) -ℤ pos m
   bought-more w m e = rw (as-difference c, as-difference k, as-difference r) (simp ring (omega (arith, difference-same, e)))
 
   sold-more : (w m : ℕ) → w * (a + n) + m ≡ v * a + x * n
-      → (c -ℤ (negℤ (pos (n * x)) +ℤ k)) +ℤ ((negℤ (pos a) +ℤ negℤ (pos n)) *ℤ pos w -ℤ ((r +ℤ (pos x -ℤ pos v) *ℤ pos 0) -ℤ k)) ≡ (c +ℤ (negℤ (pos a) *ℤ pos v -ℤ r)) -ℤ negℤ (pos m)
+      → (c -ℤ (negℤ (pos (n * x)) +ℤ k)) +ℤ ((negℤ (pos a) +ℤ negℤ (pos n)) *ℤ pos w -ℤ ((r +ℤ (pos x -ℤ pos v) *ℤ pos 0) -ℤ k))
+      ≡ (c +ℤ (negℤ (pos a) *ℤ pos v -ℤ r)) -ℤ negℤ (pos m)
   sold-more w m e = rw (as-difference c, as-difference k, as-difference r) (simp ring (omega (arith, difference-same, e)))
 
   -- a fill that closes o lots and gives the average w: the old one, none or the price
   bought-back : (o w : ℕ) → a * w + n * x + o * v ≡ n * w + a * v + o * x
-      → (c -ℤ (pos (n * x) +ℤ k)) +ℤ ((negℤ (pos a) +ℤ pos n) *ℤ pos w -ℤ ((r +ℤ (pos v -ℤ pos x) *ℤ pos o) -ℤ k)) ≡ (c +ℤ (negℤ (pos a) *ℤ pos v -ℤ r)) -ℤ pos 0
+      → (c -ℤ (pos (n * x) +ℤ k)) +ℤ ((negℤ (pos a) +ℤ pos n) *ℤ pos w -ℤ ((r +ℤ (pos v -ℤ pos x) *ℤ pos o) -ℤ k))
+      ≡ (c +ℤ (negℤ (pos a) *ℤ pos v -ℤ r)) -ℤ pos 0
   bought-back o w e = rw (as-difference c, as-difference k, as-difference r) (simp ring (omega (arith, difference-same, e)))
 
   sold-off : (o w : ℕ) → a * w + n * x + o * v ≡ n * w + a * v + o * x
-      → (c -ℤ (negℤ (pos (n * x)) +ℤ k)) +ℤ ((pos a +ℤ negℤ (pos n)) *ℤ pos w -ℤ ((r +ℤ (pos x -ℤ pos v) *ℤ pos o) -ℤ k)) ≡ (c +ℤ (pos a *ℤ pos v -ℤ r)) -ℤ negℤ (pos 0)
+      → (c -ℤ (negℤ (pos (n * x)) +ℤ k)) +ℤ ((pos a +ℤ negℤ (pos n)) *ℤ pos w -ℤ ((r +ℤ (pos x -ℤ pos v) *ℤ pos o) -ℤ k))
+      ≡ (c +ℤ (pos a *ℤ pos v -ℤ r)) -ℤ negℤ (pos 0)
   sold-off o w e = rw (as-difference c, as-difference k, as-difference r) (simp ring (omega (arith, difference-same, e)))
 
 -- what a fill that closes does to the average, by the lots that it closes

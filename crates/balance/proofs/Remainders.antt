@@ -29,7 +29,8 @@ sum-append counted [] js = omega arith
 sum-append counted (i ∷ is) js = omega (arith, sum-append counted is js)
 
 -- what counts 0 for an increase that leaves nothing, counts the same without them
-sum-with-remainder : (counted : Increase → ℕ) → ((i : Increase) → i .remainder ≡ 0 → counted i ≡ 0) → (is : List Increase) → sumOver counted (withRemainder is) ≡ sumOver counted is
+sum-with-remainder : (counted : Increase → ℕ) → ((i : Increase) → i .remainder ≡ 0 → counted i ≡ 0)
+    → (is : List Increase) → sumOver counted (withRemainder is) ≡ sumOver counted is
 unfolding sumOver withRemainder
 sum-with-remainder counted nothing [] = refl
 sum-with-remainder counted nothing (i ∷ is) =
@@ -132,7 +133,7 @@ increases-small l (e ∷ es) =
 
 -- ---- how much they leave together
 
--- no more than the sizes of those that leave some, and less where there are such
+-- no more than the sizes of those that leave some
 sizes : (is : List Increase) → AllSmall is → sumOver (λ (i : Increase). i .remainder) is ≤ sumOver (λ (i : Increase). i .size) (withRemainder is)
 unfolding sumOver withRemainder
 sizes [] a = omega arith
@@ -142,6 +143,7 @@ sizes (i ∷ is) a =
     (λ e. rw e (omega (arith, rest, eqb-true (i .remainder) 0 e)))
     (λ e. rw e (omega (arith, rest, a .0 (eqb-false (i .remainder) 0 e))))
 
+-- and less, where there are such
 pub sum-bounded : (is : List Increase) → AllSmall is → (n : ℕ) → n ≤ sumOver (λ (i : Increase). i .remainder) is → Bounds (withRemainder is) n
 unfolding sumOver withRemainder
 sum-bounded [] a n h = omega arith
