@@ -1,7 +1,7 @@
 -- Laws of positions that stand in rows.
 use Prim.Native.Nat.{ℕ, _<_}
 use mathlib.Core.Path.{_≡_, subst, sym, _∙_}
-use mathlib.Core.Bool.{Bool, true, and-eq-true-iff}
+use mathlib.Core.Bool.{true, and-eq-true-iff}
 use mathlib.Core.List.{List}
 use borrow.Author.Tests.{eqb-true, eqb-false}
 use lib.Dec.{eqb}
