@@ -64,7 +64,7 @@ account l = (l .cash .value +ℤ heldAtAverage l) -ℤ realizedProfits l
 
 -- ── what is read from a history that begins at a ledger; none of it stands in the ledger ──
 
--- what a deposit brings in; a fill is none
+-- what an event brings in: a deposit itself, and a fill nothing
 abbrev pub depositOf : Event → ℤ
 depositOf (fill f) = pos 0
 depositOf (deposit d) = d
@@ -91,7 +91,7 @@ increaseBy f p =
     } ∷ []
     ) []
 
--- what is offered to a ledger, as an increase; a deposit is none
+-- an event as an increase, by the position that its fill meets; a deposit is none
 abbrev pub increaseOf : PositionLedger → Event → List Increase
 increaseOf l (fill f) = increaseBy f (positionAt l (f .symbol))
 increaseOf l (deposit d) = []
@@ -124,7 +124,7 @@ longRemainders is = sumOver (λ (i : Increase). amongLong (i .side) (i .remainde
 abbrev pub shortRemainders : List Increase → ℕ
 shortRemainders is = sumOver (λ (i : Increase). amongShort (i .side) (i .remainder)) is
 
--- those that leave a remainder
+-- the increases that leave a remainder
 unfoldable pub withRemainder : List Increase → List Increase
 withRemainder [] = []
 withRemainder (i ∷ is) = cond (eqb (i .remainder) 0) (withRemainder is) (i ∷ withRemainder is)
