@@ -1,5 +1,7 @@
 // What is asked of sides on lent rows, once it is known that they are a book's: questions of one kind as values, each kind answered by one call. A
 // number of one side, a ratio of both best levels, a ratio of both sides' quantities, the price of a trade.
+#![tactic(auto)]
+
 ghost use Rattle.std.specs.Prelude.{◌≡◌, true, ◌≤◌, take};
 ghost use Rattle.types.specs.Answers.{reply_of_number};
 ghost use Rattle.quotient.specs.Over.{reply_of_ratio};
@@ -17,7 +19,7 @@ use sides::{Best, top, volume};
 use types::{NumberAnswer, Price, Quantity, Side};
 
 // A number of one side.
-#[derive(Drop)]
+#[derive(Clone, Copy)]
 pub enum SideNumber {
     BestPrice,
     BestQuantity,
@@ -30,7 +32,7 @@ pub enum SideNumber {
 }
 
 // A ratio of both best levels.
-#[derive(Drop)]
+#[derive(Clone, Copy)]
 pub enum TopRatio {
     MidPrice,
     SpreadPct,
@@ -39,7 +41,7 @@ pub enum TopRatio {
 }
 
 // A ratio of both sides' quantities, of all their levels or of the best so many.
-#[derive(Drop)]
+#[derive(Clone, Copy)]
 pub enum VolumeRatio {
     Imbalance,
     DepthRatio(usize),
@@ -49,7 +51,7 @@ pub enum VolumeRatio {
 }
 
 // The price of a trade of so many lots.
-#[derive(Drop)]
+#[derive(Clone, Copy)]
 pub enum Trade {
     VwapForQty(Quantity),
     PriceImpact(Quantity),

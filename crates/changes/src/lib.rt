@@ -1,5 +1,7 @@
 // What Set and Remove do to a side. A change is planned on the prices, then done row by row, so that a caller can lend one row of a
 // record at a time and a refused change touches nothing.
+#![tactic(auto)]
+
 ghost use Rattle.std.specs.Prelude.{◌≡◌, true, ◌≤◌, ◌<◌, length, take};
 ghost use Rattle.levels.specs.Order.{in_order, place_from};
 ghost use Rattle.changes.specs.Inner.Edits.{inserted, deleted, row_after, count_after, EditFits, set_step, out_edit};
@@ -9,7 +11,7 @@ use levels::search::find;
 use types::{Refusal, Side};
 
 // What a change does to each row of a side: nothing, a number written over, put in or taken out.
-#[derive(Drop)]
+#[derive(Clone, Copy)]
 pub enum Edit {
     Keep,
     Over(usize),
@@ -18,7 +20,7 @@ pub enum Edit {
 }
 
 // What a change comes to: an edit of its side's rows, or why not.
-#[derive(Drop)]
+#[derive(Clone, Copy)]
 pub enum Step {
     Do(Edit),
     Refuse(Refusal),

@@ -1,5 +1,7 @@
 // What is taken of a chunk that was read, and what is kept of it for the next. That a feed read in chunks prints what the whole of it prints,
 // wherever the chunks are cut, is stated in specs/Chunks.antt.
+#![tactic(auto)]
+
 ghost use Rattle.std.specs.Prelude.{◌≡◌, ◌≤◌, length, take, drop};
 ghost use Rattle.chunks.specs.Chunks.{whole_end, too_long};
 

@@ -1,5 +1,7 @@
 // A day's fills booked in one call: in order, until one is refused. The fills that were taken stand, and the refused one changes nothing. Here the
 // fills are lent as a slice of records, and the ledger goes in by value and comes back; rows.rt has both as plain numbers that are lent.
+#![tactic(auto)]
+
 ghost use Rattle.std.specs.Prelude.{◌≡◌};
 ghost use Rattle.types.specs.Answers.{reply_of_outcome};
 ghost use Rattle.day.specs.Day.{day_of, day_booked};
@@ -12,7 +14,7 @@ use types::{Outcome, Refusal};
 pub mod rows; // rows.rt: fills lent as numbers, five each, booked to a ledger that is lent as its rows
 
 // A ledger after a day's fills, how many were taken, and how it ended: done, or the refusal that ended it.
-#[derive(Drop)]
+#[derive(Clone, Copy)]
 pub struct DayBooked {
     pub ledger: PositionLedger,
     pub taken: u64,
@@ -20,7 +22,7 @@ pub struct DayBooked {
 }
 
 // The same beside the rows of a ledger that is lent.
-#[derive(Drop)]
+#[derive(Clone, Copy)]
 pub struct RowsDay {
     pub totals: Totals,
     pub taken: u64,

@@ -2,6 +2,8 @@
 // in one call, and write what is printed of it. All is read before anything is booked, and after a failure nothing is printed. That what is put is
 // what is printed of the text that was taken (specs/Days.antt) is promised here; no contract can say what is read or written, and so the rest is
 // proved safe and ending, and run.
+#![tactic(auto)]
+
 ghost use Rattle.std.specs.Prelude.{◌≡◌, true, List, ℕ, ◌≤◌, length, get_or};
 ghost use Rattle.decimals.specs.Decimals.{Puts};
 ghost use Rattle.day.specs.Numbers.{day_booked_by};

@@ -1,5 +1,7 @@
 // The text of a day, read a chunk at a time: each line is put together in a buffer of its own and read when it ends. What is kept is promised to be
 // what is kept of a text, taken whole; no contract can say that the file has that text.
+#![tactic(auto)]
+
 ghost use Rattle.std.specs.Prelude.{◌≡◌, true, ◌||◌, List, ℕ, length};
 ghost use Rattle.day_keeping.specs.Inner.Keeping.{kept};
 ghost use Rattle.day_collecting.specs.Inner.Collecting.{held_in, Within, Took, KeptOf};

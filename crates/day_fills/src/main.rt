@@ -1,4 +1,6 @@
 // The day program. Run by `rt check` on the worked day.
+#![tactic(auto)]
+
 fn main() {
     day_booking::take();
 }

@@ -1,5 +1,7 @@
 // What is kept of a day as its lines are read: the opening cash, and each fill as five numbers and the number of its line. The first line that is
 // none of a day is said on standard error, and ends the reading. specs/Inner/Keeping.antt says what is kept.
+#![tactic(auto)]
+
 ghost use Rattle.std.specs.Prelude.{◌≡◌, ◌+◌, ◌≤◌};
 ghost use Rattle.std.proofs.lemmas.List.Edits.{sets};
 ghost use Rattle.day_lines.specs.Lines.{said};
@@ -16,7 +18,7 @@ pub const FILLS: usize = 100_000;
 
 // What was read so far: the number of the line that is read and how many bytes of it are held, the line of the opening cash (0 before it) and the
 // cash, how many fills are kept, whether more is to be read, and whether all has gone well.
-#[derive(Drop)]
+#[derive(Clone, Copy)]
 pub struct Collected {
     pub line: u64,
     pub held: usize,

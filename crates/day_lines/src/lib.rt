@@ -1,5 +1,7 @@
 // What one line of a day says: nothing, the opening cash, a fill, or something else, which is no line of a day. specs/Lines.antt says which. The
 // bytes up to `#` are cut into words (words.rt).
+#![tactic(auto)]
+
 ghost use Rattle.std.specs.Prelude.{◌≡◌, ◌≤◌, length, take};
 ghost use Rattle.day_lines.specs.Words.{spoken, word_at, words as words_of};
 ghost use Rattle.numerals.specs.Numerals.{numeral_up_to};
@@ -16,13 +18,13 @@ use wire::same;
 use words::{count, word};
 
 // A word as a side, or it is something else.
-#[derive(Drop)]
+#[derive(Clone, Copy)]
 pub enum Sided {
     Is(Side),
     Other,
 }
 
-#[derive(Drop)]
+#[derive(Clone, Copy)]
 pub enum Said {
     Nothing,
     Cash(Amount),

@@ -1,5 +1,7 @@
 // What is printed of a booked day, put into output that is lent: the fills taken, the refusal that ended them (refusals.rt), the totals and the
 // positions (here). Room is asked for, so that nothing is cut. specs/Booked.antt says what is printed.
+#![tactic(auto)]
+
 ghost use Rattle.std.specs.Prelude.{◌≡◌, ◌+◌, ◌≤◌, length};
 ghost use Rattle.holding.specs.Rows.{position_of};
 ghost use Rattle.position.specs.Lent.{lent_ledger};
@@ -18,7 +20,7 @@ use told::Told;
 use types::SYMBOLS;
 
 // How a day ended: the totals, the fills taken, the refusal that ended them if its number is not 0, and the line of the refused fill.
-#[derive(Drop)]
+#[derive(Clone, Copy)]
 pub struct Ended {
     pub totals: Totals,
     pub taken: u64,

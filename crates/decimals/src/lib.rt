@@ -1,5 +1,7 @@
 // Text put into memory that is lent, each piece behind the one before it: bytes, numbers in decimal digits, with a sign or without, and pairs of
 // numbers. Room is asked for, so that nothing is cut.
+#![tactic(auto)]
+
 ghost use Rattle.std.specs.Prelude.{◌+◌, ◌≤◌, [], ◌∷◌, length};
 ghost use Rattle.decimals.specs.Decimals.{decimal, signed_decimal, pair, Puts};
 

@@ -1,6 +1,8 @@
 // A delta: whether its numbers admit it and what it then comes to on a side, in the order of the refusals' numbers, and how it is done to that
 // side's rows. The side is lent as its two rows, with the counts beside them; a delta is decided before anything is written, and a refusal's step
 // leaves every row alone.
+#![tactic(auto)]
+
 ghost use Rattle.std.specs.Prelude.{◌≡◌, true, ◌≤◌, length, take, get_or};
 ghost use Rattle.types.specs.declared.Outcome.TheVariants.{Done};
 ghost use Rattle.levels.specs.Order.{in_order};
@@ -13,14 +15,14 @@ use changes::{Edit, Step};
 use types::{Outcome, Price, Quantity, Refusal, Side};
 
 // Whether a delta sets or removes a level.
-#[derive(Drop)]
+#[derive(Clone, Copy)]
 pub enum DeltaAction {
     Set,
     Remove,
 }
 
 // An update of one level. Its sequence must be the book's plus 1.
-#[derive(Drop)]
+#[derive(Clone, Copy)]
 pub struct BookDelta {
     pub side: Side,
     pub price: Price,
@@ -31,7 +33,7 @@ pub struct BookDelta {
 
 // The counts and the sequence of a book that is lent as its rows.
 #[repr(C)]
-#[derive(Drop)]
+#[derive(Clone, Copy)]
 pub struct Counts {
     pub bids: usize,
     pub asks: usize,
@@ -39,7 +41,7 @@ pub struct Counts {
 }
 
 // What a delta leaves beside the rows.
-#[derive(Drop)]
+#[derive(Clone, Copy)]
 pub struct RowsApplied {
     pub counts: Counts,
     pub outcome: Outcome,

@@ -1,1 +1,2 @@
 // The worked examples, book and ledger together: this crate holds one theorem alone, in specs/Examples.antt.
+#![tactic(auto)]

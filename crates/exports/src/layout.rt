@@ -4,7 +4,7 @@ ghost use Rattle.exports.specs.Layouts.{layout};
 
 // The version of the archive, and the size in bytes of each record that crosses.
 #[repr(C)]
-#[derive(Drop)]
+#[derive(Clone, Copy)]
 pub struct Layout {
     pub version: u64,
     pub book: u64,

@@ -2,6 +2,8 @@
 // prices, bid quantities, ask prices, ask quantities) with its counts beside them, a ledger as its three (quantities, averages, realized profits)
 // with its totals; each is asked and changed where it stands. An answer comes back as its number and values. Sides, actions, questions, listings and worths are named by their numbers; a number that names none
 // gives 2, after 1 for a record that is none.
+#![tactic(auto)]
+
 pub mod layout; // layout.rt: the archive's version, and the sizes of the records that cross
 pub mod book; // book.rt: the book, its changes, its questions and its listings
 pub mod ledger; // ledger.rt: the ledger
@@ -15,7 +17,7 @@ use told::Told;
 
 // A new ledger, and the call's answer.
 #[repr(C)]
-#[derive(Drop)]
+#[derive(Clone, Copy)]
 pub struct LedgerTold {
     pub ledger: PositionLedger,
     pub told: Told,
@@ -23,7 +25,7 @@ pub struct LedgerTold {
 
 // The totals beside a ledger's rows after a call, and the call's answer.
 #[repr(C)]
-#[derive(Drop)]
+#[derive(Clone, Copy)]
 pub struct TotalsTold {
     pub totals: Totals,
     pub told: Told,
@@ -31,7 +33,7 @@ pub struct TotalsTold {
 
 // The totals beside a ledger's rows after a day's fills, how many of them were taken, and the answer: 0, or the refusal that ended them.
 #[repr(C)]
-#[derive(Drop)]
+#[derive(Clone, Copy)]
 pub struct DayTold {
     pub totals: Totals,
     pub taken: u64,
@@ -40,7 +42,7 @@ pub struct DayTold {
 
 // A receiver: 0 waiting, 1 live, and the book that it holds. Another number is no receiver.
 #[repr(C)]
-#[derive(Drop)]
+#[derive(Clone, Copy)]
 pub struct Held {
     pub state: u64,
     pub book: OrderBook,
@@ -48,7 +50,7 @@ pub struct Held {
 
 // The state and the counts beside a receiver's rows after a line, and the line's outcome.
 #[repr(C)]
-#[derive(Drop)]
+#[derive(Clone, Copy)]
 pub struct TurnTold {
     pub state: u64,
     pub counts: Counts,
@@ -58,7 +60,7 @@ pub struct TurnTold {
 // What a line reads as: 0 and its kind (1 a delta, 2 a snapshot), or 12. A delta's numbers, and a snapshot's book; what the line does not
 // have is 0 or empty.
 #[repr(C)]
-#[derive(Drop)]
+#[derive(Clone, Copy)]
 pub struct LineTold {
     pub told: Told,
     pub side: u64,

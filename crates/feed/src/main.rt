@@ -1,4 +1,6 @@
 // The feed program, run here on the four lines of examples/four.feed.
+#![tactic(auto)]
+
 fn main() {
     feeding::take();
 }

@@ -1,4 +1,6 @@
 // The feed program on a feed with each kind of damage.
+#![tactic(auto)]
+
 fn main() {
     feeding::take();
 }

@@ -1,6 +1,8 @@
 // What the feed programs do: read a feed, from the file that the first argument names or else from standard input, a chunk at a time, and write
 // what is printed of each chunk before the next is read; then the end state. What is printed of a chunk and of the end state is promised in
 // `printing`. No contract can say what is read or written: this is proved safe and ending, and run.
+#![tactic(auto)]
+
 ghost use Rattle.std.specs.Prelude.{◌≡◌, ◌*◌, ◌≤◌, length};
 
 use chunks::{keep, whole_lines};
@@ -13,7 +15,7 @@ use receiver::State;
 
 // What was heard so far, how many bytes of the input buffer wait for their line feed, whether more is to be read, and whether all has gone
 // well: after a failure nothing is printed.
-#[derive(Drop)]
+#[derive(Clone, Copy)]
 struct Run {
     heard: Heard,
     held: usize,

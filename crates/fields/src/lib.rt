@@ -1,6 +1,8 @@
 // The parts of a line that is an operation: a label that ends with a colon and a space, then fields, a space between them. A number that is
 // missing is 0, and one that is too large or is no number is the largest, which is outside every limit. A line that begins with #, or has
 // no label and does not begin with a digit, is text.
+#![tactic(auto)]
+
 ghost use Rattle.std.specs.Prelude.{◌≤◌, length};
 
 use amount::Amount;

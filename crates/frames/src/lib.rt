@@ -1,5 +1,7 @@
 // The frames of the feed, and a delta's line, read and written: 01, side, action, price 4, quantity 4, sequence 8, check. A line is read to bytes,
 // which are then tested: their own digits, the line feed, the kind, side and action, the sum, the limits. A snapshot's line stands in `lines`.
+#![tactic(auto)]
+
 ghost use Rattle.std.specs.Prelude.{◌≡◌, [], ◌++◌, ◌≤◌, length, drop};
 ghost use Rattle.types.specs.Answers.{reply_of_number};
 ghost use Rattle.types.specs.Written.{written};
@@ -13,7 +15,7 @@ use deltas::{BookDelta, DeltaAction};
 use types::{NumberAnswer, Refusal, Side};
 
 // A delta, or that the line is none.
-#[derive(Drop)]
+#[derive(Clone, Copy)]
 pub enum DeltaAnswer {
     Is(BookDelta),
     Refused(Refusal),

@@ -1,4 +1,6 @@
 // One position and one fill: when each is within its limits, and what the fill makes of the position. The ledger above holds 32 of them.
+#![tactic(auto)]
+
 use amount::Amount;
 use types::{Price, Quantity, Side};
 
@@ -6,7 +8,7 @@ mod fills; // fills.rt: what a fill moves
 mod limits; // limits.rt: the tests
 pub mod rows; // rows.rt: positions in lent rows
 
-#[derive(Drop)]
+#[derive(Clone, Copy)]
 pub struct Fill {
     pub symbol: u32,
     pub side: Side,
@@ -17,7 +19,7 @@ pub struct Fill {
 
 // Signed lots, their average price (0 when flat), and the profit realized so far.
 #[repr(C)]
-#[derive(Drop)]
+#[derive(Clone, Copy)]
 pub struct Position {
     pub quantity: Amount,
     pub average: u32,

@@ -1,11 +1,13 @@
 // What the programs share: how they open the file that the first argument names, and how they write what they print.
+#![tactic(auto)]
+
 ghost use Rattle.std.specs.Prelude.{◌≤◌, length};
 ghost use Rattle.io.specs.Counts.{IsPrefixLen};
 
 use libc::STDOUT_FILENO;
 
 // A file that is open, below 0 where it is not, and how many bytes its name has.
-#[derive(Drop)]
+#[derive(Clone, Copy)]
 pub struct Named {
     pub fd: i32,
     pub length: usize,

@@ -1,5 +1,7 @@
 // The same change over a book that is lent and altered in place: thin, over the call by value. The wrapper has plain parameters, so that
 // whoever calls it needs no reference to a struct.
+#![tactic(auto)]
+
 ghost use Rattle.std.specs.Prelude.{◌≡◌};
 ghost use Rattle.types.specs.Answers.{reply_of_outcome};
 ghost use Rattle.orderbook.specs.Apply.{change_of, applied};

@@ -1,6 +1,8 @@
 // One side of a book: a table of at most 128 levels, best first, with one code for bids and asks. The work is done on rows of 128
 // places that are lent, so that a book in place, by value and in a receiver share one set of functions and proofs. What is done to the rows
 // stands in `changes`, and what is asked of them in `walks`.
+#![tactic(auto)]
+
 ghost use Rattle.std.specs.Prelude.{◌≡◌, [], ◌≤◌};
 ghost use Rattle.levels.specs.Inner.Found.{ahead_in, reached_in};
 ghost use Rattle.levels.specs.Table.{table};
@@ -9,7 +11,7 @@ pub mod search; // search.rt: which price comes first, and where a price stands 
 pub mod formed; // formed.rt: whether two rows and a count are a well_formed_lem side
 
 #[repr(C)]
-#[derive(Drop)]
+#[derive(Clone, Copy)]
 pub struct Levels {
     pub prices: [u32; 128],
     pub quantities: [u32; 128],
@@ -17,7 +19,7 @@ pub struct Levels {
 }
 
 // Where a price stands, or before which place it belongs.
-#[derive(Drop)]
+#[derive(Clone, Copy)]
 pub enum Place {
     At(usize),
     Before(usize),

@@ -1,4 +1,6 @@
 // The lines of the feed: a snapshot's line read and written, and any line read as the frame that it is.
+#![tactic(auto)]
+
 ghost use Rattle.std.specs.Prelude.{◌≡◌};
 ghost use Rattle.frames.specs.Decode.{decode};
 ghost use Rattle.lines.specs.Read.{read_of, read_as};
@@ -11,7 +13,7 @@ use orderbook::OrderBook;
 use types::{Outcome, Refusal};
 
 // What a line is, or 12. A snapshot's book stands beside it.
-#[derive(Drop)]
+#[derive(Clone, Copy)]
 pub enum FrameAnswer {
     Delta(BookDelta),
     Snapshot,
@@ -19,7 +21,7 @@ pub enum FrameAnswer {
 }
 
 // What a line is, and the book of a snapshot, which is empty beside anything else.
-#[derive(Drop)]
+#[derive(Clone, Copy)]
 pub struct ReadFrame {
     pub answer: FrameAnswer,
     pub book: OrderBook,

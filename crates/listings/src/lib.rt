@@ -1,5 +1,7 @@
 // Any listing of a book's levels as one value, written as price, quantity, price, quantity to the front of one lent buffer. The book is lent as
 // its rows, and the calls that take the record by value are thin over those. The rest of the buffer keeps its numbers; on a refusal all of it does.
+#![tactic(auto)]
+
 ghost use Rattle.std.specs.Prelude.{◌≡◌, length};
 ghost use Rattle.types.specs.Replies.{map_reply};
 ghost use Rattle.types.specs.Answers.{reply_of_number};
@@ -17,7 +19,7 @@ use orderbook::OrderBook;
 use types::{NumberAnswer, Price, Side};
 
 // The best so many levels of a side; the best so many of both sides, bids first; the levels of a side from one price to another, upward.
-#[derive(Drop)]
+#[derive(Clone, Copy)]
 pub enum Listing {
     Top(Side, usize),
     Snapshot(usize),

@@ -6,7 +6,7 @@ use crate::Listing;
 use types::{Price, Refusal, Side};
 
 // A listing, or that the number names none.
-#[derive(Drop)]
+#[derive(Clone, Copy)]
 pub enum Named {
     Is(Listing),
     Refused(Refusal),

@@ -13,7 +13,7 @@ use levels::search::find;
 use orderbook::rows;
 use types::{NumberAnswer, Price, Refusal, Side};
 
-#[derive(Drop)]
+#[derive(Clone, Copy)]
 pub struct Plan {
     pub bids: Run,
     pub asks: Run,

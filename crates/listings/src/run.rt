@@ -4,7 +4,7 @@ ghost use Rattle.listings.specs.Listed.{woven};
 ghost use Rattle.listings.specs.Inner.Runs.{every_place, in_run, place_of};
 
 // `count` levels from the place `from` on; turned, the last of them comes first.
-#[derive(Drop)]
+#[derive(Clone, Copy)]
 pub struct Run {
     pub from: usize,
     pub count: usize,

@@ -1,5 +1,7 @@
 // Each question of a book that is handed over by value, under the original's name; thin, over the questions of one kind (kinds.rt). A crate's
 // methods must stand with their type, so these are functions of a book, as the listings are.
+#![tactic(auto)]
+
 pub mod kinds; // kinds.rt: the questions of one kind, of a book by value
 pub mod best; // best.rt: the best levels and what is made of them
 pub mod volume; // volume.rt: counts and quantities

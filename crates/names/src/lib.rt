@@ -1,5 +1,7 @@
 // Numbers and what they name, for callers that are not Rattle: a delta, a question, a listing and a receiver's state by their numbers, and the numbers
 // of a line's kind and of a state. Numbers that name nothing are 2, after 1 for a record that is no book.
+#![tactic(auto)]
+
 ghost use Rattle.std.specs.Prelude.{◌≡◌};
 ghost use Rattle.types.specs.Replies.{refuse};
 ghost use Rattle.told.specs.Numbers.{tell, nothing};

@@ -1,5 +1,7 @@
 // A book's changes, questions and listings by their numbers, on lent rows: each with its answer told. Crate exports has them under the names that
 // Rust and C link.
+#![tactic(auto)]
+
 ghost use Rattle.std.specs.Prelude.{◌≡◌, length};
 ghost use Rattle.types.specs.Answers.{reply_of_outcome};
 ghost use Rattle.types.specs.Replies.{map_reply};
@@ -19,7 +21,7 @@ use types::{Refusal, Side};
 
 // The counts beside a book's rows after a call, and the call's answer.
 #[repr(C)]
-#[derive(Drop)]
+#[derive(Clone, Copy)]
 pub struct CountsTold {
     pub counts: Counts,
     pub told: Told,

@@ -1,5 +1,7 @@
 // Words read as numbers: decimal digits, zeros in front allowed, and a minus sign before those of a signed number. A number past its limit is none.
 // specs/Numerals.antt says which number a word is.
+#![tactic(auto)]
+
 ghost use Rattle.std.specs.Prelude.{◌≡◌, ◌≤◌, pos, neg_ℤ};
 ghost use Rattle.amount.specs.Whole.{amount};
 ghost use Rattle.numerals.specs.Numerals.{numeral_up_to, with_digit, above, below, signed_of};
@@ -8,13 +10,13 @@ ghost use Rattle.numerals.specs.Inner.Sizes.{size_of};
 use amount::Amount;
 
 // A word as a number without a sign, and as one with a sign: or it is something else.
-#[derive(Drop)]
+#[derive(Clone, Copy)]
 pub enum Number {
     Is(u64),
     Other,
 }
 
-#[derive(Drop)]
+#[derive(Clone, Copy)]
 pub enum Signed {
     Is(Amount),
     Other,

@@ -1,4 +1,6 @@
 // The operations on the book.
+#![tactic(auto)]
+
 use fields::{delta, number, side, small};
 use listings::Listing;
 use listings::numbered::Named as NamedListing;

@@ -1,4 +1,6 @@
 // The operations on lines of the feed, and on the receiver.
+#![tactic(auto)]
+
 ghost use Rattle.std.specs.Prelude.{◌≤◌, length};
 
 use deltas::BookDelta;

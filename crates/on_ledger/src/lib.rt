@@ -1,4 +1,6 @@
 // The operations on the ledger and the prices.
+#![tactic(auto)]
+
 use amount::Amount;
 use fields::{amount, number, side, small, start};
 use holding::Fill;

@@ -1,5 +1,7 @@
 // The order book: its record, the test for being a book, and its changes. A book is lent as its four rows and changed where it is
 // (rows.rt); the methods that take the record by value are thin over that. What a book answers stands in `questions`.
+#![tactic(auto)]
+
 ghost use Rattle.std.specs.Prelude.{◌≡◌};
 ghost use Rattle.orderbook.specs.Book.{is_book, side_of, empty_book};
 
@@ -11,7 +13,7 @@ use levels::Levels;
 use types::{Outcome, Side};
 
 #[repr(C)]
-#[derive(Drop)]
+#[derive(Clone, Copy)]
 pub struct OrderBook {
     pub bids: Levels,
     pub asks: Levels,
@@ -19,7 +21,7 @@ pub struct OrderBook {
 }
 
 // A book and what became of the call that gave it back.
-#[derive(Drop)]
+#[derive(Clone, Copy)]
 pub struct Applied {
     pub book: OrderBook,
     pub outcome: Outcome,

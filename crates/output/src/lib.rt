@@ -1,5 +1,7 @@
 // Answers on standard output: the number of the answer, then each value after a space. Programs print by these functions, and which
 // values an answer carries is taken from `told`. No contract can say what is written: they are proved safe and ending, and run.
+#![tactic(auto)]
+
 use amount::Amount;
 use libc::STDOUT_FILENO;
 use questions::Answer;

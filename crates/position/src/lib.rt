@@ -1,6 +1,8 @@
 // The position ledger: the lots, the average and the realized profit of each of 32 symbols, cash, and commission paid. A ledger is lent as its
 // three rows and changed where it is (rows.rt); the methods that take the record by value are thin over that. Crate valuation says what it is
 // worth.
+#![tactic(auto)]
+
 use amount::Amount;
 pub use holding::{Fill, Position};
 use types::Outcome;
@@ -10,7 +12,7 @@ mod ledger; // ledger.rt: new, is_ledger, apply_fill, deposit
 
 // A place for each symbol in each row: signed lots, their average price (0 when flat), and the profit realized so far.
 #[repr(C)]
-#[derive(Drop)]
+#[derive(Clone, Copy)]
 pub struct PositionLedger {
     pub cash: Amount,
     pub commission: Amount,
@@ -21,21 +23,21 @@ pub struct PositionLedger {
 
 // What stands beside the rows of a ledger that is lent.
 #[repr(C)]
-#[derive(Drop)]
+#[derive(Clone, Copy)]
 pub struct Totals {
     pub cash: Amount,
     pub commission: Amount,
 }
 
 // What a change leaves beside the rows.
-#[derive(Drop)]
+#[derive(Clone, Copy)]
 pub struct RowsBooked {
     pub totals: Totals,
     pub outcome: Outcome,
 }
 
 // A ledger after a call, and how the call ended: a refusal gives the ledger back as it was.
-#[derive(Drop)]
+#[derive(Clone, Copy)]
 pub struct Booked {
     pub ledger: PositionLedger,
     pub outcome: Outcome,

@@ -1,5 +1,7 @@
 // What a position counts for at a price, the prices that are given for 32 symbols, and when exposures are neutral. The ledger above sums
 // over its positions.
+#![tactic(auto)]
+
 ghost use Rattle.std.specs.Prelude.{◌≡◌, ◌<◌, ◌≤◌};
 ghost use Rattle.amount.specs.Whole.{amount};
 ghost use Rattle.holding.specs.Inner.Sizes.{PositionIn};
@@ -12,7 +14,7 @@ use types::MAX_PRICE;
 pub mod rows; // rows.rt: sums and searches over positions in lent rows
 
 // What is summed over the positions.
-#[derive(Drop)]
+#[derive(Clone, Copy)]
 pub enum Measure {
     Worth,
     Size,

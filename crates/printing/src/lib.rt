@@ -1,5 +1,7 @@
 // What the feed program prints: the lines of a text go to a receiver that is lent, and the outcome of each is put into the output that is lent
 // (here); at the end of the feed the state is (ends.rt). Room is asked for, so that nothing is cut. specs/Printed.antt says what is printed.
+#![tactic(auto)]
+
 ghost use Rattle.std.specs.Prelude.{◌≡◌, ◌+◌, ◌-◌, ◌*◌, ◌≤◌, ◌<◌, length, drop};
 ghost use Rattle.types.specs.Answers.{reply_of_outcome};
 ghost use Rattle.decimals.specs.Decimals.{Puts};
@@ -18,7 +20,7 @@ use told::Told;
 use types::Outcome;
 
 // The receiver beside its rows, how many lines it took, and how many bytes of the output are used.
-#[derive(Drop)]
+#[derive(Clone, Copy)]
 pub struct Heard {
     pub state: State,
     pub counts: Counts,

@@ -16,7 +16,7 @@ use sides::{top, volume};
 use types::{FlagAnswer, LevelAnswer, NumberAnswer, Price, QuoteAnswer, Refusal, Side};
 
 // A number of the whole book.
-#[derive(Drop)]
+#[derive(Clone, Copy)]
 pub enum BookNumber {
     Spread,
     TotalLevels,
@@ -25,7 +25,7 @@ pub enum BookNumber {
 }
 
 // Yes or no.
-#[derive(Drop)]
+#[derive(Clone, Copy)]
 pub enum BookFlag {
     HasPrice(Side, Price),
     IsEmpty,

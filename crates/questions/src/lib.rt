@@ -1,5 +1,7 @@
 // Any question to a book as one value, and one call that answers any of them, over a book lent as its rows; the call that takes the record by
 // value is thin over it. Second names share one question. What the receiver and the bindings ask goes by this.
+#![tactic(auto)]
+
 ghost use Rattle.std.specs.Prelude.{◌≡◌};
 ghost use Rattle.orderbook.specs.Lent.{lent_book};
 ghost use Rattle.questions.specs.Asked.{reply_of, book_ask};
@@ -15,7 +17,7 @@ use orderbook::OrderBook;
 use quotient::Quotient;
 use types::{PriceLevel, Quote, Refusal, Side};
 
-#[derive(Drop)]
+#[derive(Clone, Copy)]
 pub enum Question {
     Best(Side),
     BestQuote,
@@ -27,7 +29,7 @@ pub enum Question {
     Flag(BookFlag),
 }
 
-#[derive(Drop)]
+#[derive(Clone, Copy)]
 pub enum Answer {
     Number(u64),
     Flag(bool),

@@ -8,7 +8,7 @@ use asked::{SideNumber, TopRatio, Trade, VolumeRatio};
 use types::{Price, Refusal, Side};
 
 // A question, or that the number names none.
-#[derive(Drop)]
+#[derive(Clone, Copy)]
 pub enum Named {
     Is(Question),
     Refused(Refusal),

@@ -1,5 +1,7 @@
 // Exact quotients, numerator over denominator. Every quotient of the project is made here, by one definition: a change of its form
 // (as to lowest terms) changes that definition and this file, and no caller.
+#![tactic(auto)]
+
 ghost use Rattle.std.specs.Prelude.{◌≡◌};
 ghost use Rattle.quotient.specs.Over.{over, over_or_none, reply_of_ratio};
 
@@ -7,14 +9,14 @@ use amount::Amount;
 use types::Refusal;
 
 #[repr(C)]
-#[derive(Drop)]
+#[derive(Clone, Copy)]
 pub struct Quotient {
     pub numerator: Amount,
     pub denominator: u64,
 }
 
 // A quotient, or why there is none.
-#[derive(Drop)]
+#[derive(Clone, Copy)]
 pub enum Ratio {
     Is(Quotient),
     Refused(Refusal),

@@ -1,5 +1,7 @@
 // The receiver of a feed: it takes lines, and holds a book that it shows while it is live. Its state is an enum, with room for a third
 // state. A line goes to a receiver that is lent, its book as four rows (rows.rt); the call that takes the record by value is thin over it.
+#![tactic(auto)]
+
 ghost use Rattle.std.specs.Prelude.{◌≡◌};
 ghost use Rattle.receiver.specs.Turns.{is_receiver, start, turn_of, taken};
 
@@ -10,21 +12,21 @@ use levels::Levels;
 use orderbook::OrderBook;
 use types::Outcome;
 
-#[derive(Drop)]
+#[derive(Clone, Copy)]
 pub enum State {
     Waiting,
     Live,
 }
 
 // Waiting or live, and a book, whose sequence is the number held.
-#[derive(Drop)]
+#[derive(Clone, Copy)]
 pub struct Receiver {
     pub state: State,
     pub book: OrderBook,
 }
 
 // A receiver, and what became of the line that it was handed.
-#[derive(Drop)]
+#[derive(Clone, Copy)]
 pub struct Taken {
     pub receiver: Receiver,
     pub outcome: Outcome,

@@ -22,7 +22,7 @@ use orderbook::{Applied, OrderBook, rows};
 use types::{Outcome, Refusal};
 
 // What a line leaves beside the rows.
-#[derive(Drop)]
+#[derive(Clone, Copy)]
 pub struct Turned {
     pub state: State,
     pub counts: Counts,

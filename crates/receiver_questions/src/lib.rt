@@ -1,5 +1,7 @@
 // What a receiver answers: 1, 2 or 16 before all else, then what its book answers. Any question, and any listing, to a receiver that is
 // lent, its book as four rows; the calls that take the record by value are thin over those.
+#![tactic(auto)]
+
 ghost use Rattle.std.specs.Prelude.{◌≡◌, length};
 ghost use Rattle.types.specs.Replies.{map_reply};
 ghost use Rattle.types.specs.Answers.{reply_of_number};

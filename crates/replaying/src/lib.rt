@@ -1,5 +1,7 @@
 // Does operations on a book, a ledger and a receiver, one a line of standard input, and prints the answer to each, one a line. The lines are
 // data, so that a list of cases costs no proof. No contract can say what is read or written: it is proved safe and ending, and run.
+#![tactic(auto)]
+
 ghost use Rattle.std.specs.Prelude.{◌≤◌, length};
 
 use amount::Amount;
@@ -10,7 +12,7 @@ use receiver::Receiver;
 
 // What the operations work on: a book, one that is kept to go back to, a ledger, the prices of its symbols (0 where there is none), and a
 // receiver.
-#[derive(Drop)]
+#[derive(Clone, Copy)]
 struct State {
     book: OrderBook,
     kept: OrderBook,

@@ -1,11 +1,13 @@
 // Every way to spoil one digit of a line: another byte in its place, or a line feed, which cuts the line in two. Counts how many of the lines
 // that come of it were tried, and how many of them read as a frame: none of a frame's line.
+#![tactic(auto)]
+
 ghost use Rattle.std.specs.Prelude.{◌≤◌};
 
 use lines::FrameAnswer;
 
 // How many lines were tried, and how many of them read as a frame.
-#[derive(Drop)]
+#[derive(Clone, Copy)]
 pub struct Tries {
     pub tried: u64,
     pub frames: u64,

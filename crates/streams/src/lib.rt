@@ -1,4 +1,6 @@
 // The lines of a stream of bytes: where the first one ends. What a stream of frames, damaged or not, reads as is stated in specs/Reading.antt.
+#![tactic(auto)]
+
 ghost use Rattle.std.specs.Prelude.{◌≡◌};
 ghost use Rattle.streams.specs.Streams.{line_end};
 

@@ -1,5 +1,7 @@
 // What a ledger is worth at given prices. A ledger is lent as its three rows and asked where it is (rows.rt); the calls that take the record by value
 // are thin over that.
+#![tactic(auto)]
+
 ghost use Rattle.std.specs.Prelude.{◌≡◌};
 ghost use Rattle.types.specs.Answers.{reply_of_amount, reply_of_flag};
 ghost use Rattle.valuation.specs.Values.{unrealized, unrealized_total, liquidation, net_exposure, neutral};

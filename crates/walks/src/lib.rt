@@ -1,11 +1,13 @@
 // What is asked of a side's levels, best first. No function asks that the rows are a side: u32 numbers and a u32 target bound
 // every sum, and each answer is its definition on whatever stands in the rows.
+#![tactic(auto)]
+
 ghost use Rattle.std.specs.Prelude.{◌≡◌, ◌≤◌, ◌<◌, length, take};
 ghost use Rattle.levels.specs.Table.{levels, rows};
 ghost use Rattle.walks.specs.Walk.{sum_of, fill_of, reach_from, distance as distance_of, gaps_of, least_from};
 
 // What filling a target comes to: its cost, or that there is too little.
-#[derive(Drop)]
+#[derive(Clone, Copy)]
 pub enum Filling {
     Cost(u64),
     Short,

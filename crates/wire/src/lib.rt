@@ -1,5 +1,7 @@
 // Numbers as hexadecimal digits in lent memory: what the frames of the feed are read and written with. Places and widths count bytes,
 // of two digits each. specs/Wire.antt says what the digits, the check byte and a line are.
+#![tactic(auto)]
+
 ghost use Rattle.std.specs.Prelude.{◌≡◌, true, [], ◌∷◌, ◌++◌, ◌+◌, ◌-◌, ◌*◌, ◌%◌, ◌^◌, ◌≤◌, ◌<◌, length, take, drop};
 ghost use Rattle.wire.specs.Wire.{line_feed, digit as digitOf, value as value_of, digits_of, be, byte_sum, field as field_of, column, Part};
 ghost use Rattle.wire.specs.Inner.Spelling.{joined, Spelt};
