@@ -1,14 +1,11 @@
 -- `read_number` meets its contract. The loop's invariant: what is left to read gives what the whole word gives.
 use mathlib.Core.Path.{sym, ◌∙◌}
 use native.Mathlib.Omega.{arith}
-use Rattle.numerals.proofs.Digits.{none_there, all_left, one_read, none_read, all_read}
+use Rattle.numerals.proofs.Digits.{none_there, one_read, none_read, all_read}
 use Rattle.numerals.proofs.read_number.Goals as goal
 
 pub returns-then-word-eq0 : goal.returns-then-word-eq0
 returns-then-word-eq0 c = let a = c.args in (none_there a.limit a.word.now (omega arith), omega arith)
-
-pub loop-i-init : goal.loop-i-init
-loop-i-init c = let a = c.args in (omega arith, omega arith, all_left a.limit a.word.now (omega arith))
 
 pub returns-in_default : goal.returns-in_default
 returns-in_default c = let d = c.with_digit in

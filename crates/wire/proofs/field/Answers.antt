@@ -1,6 +1,6 @@
 -- `wire::field` meets its contract. The invariant: n is the number that the first i of the digits spell.
 use Prim.Native.Nat.{ℕ, ◌*◌, ◌<◌}
-use mathlib.Core.Path.{◌≡◌, refl, ap, ◌∙◌}
+use mathlib.Core.Path.{◌≡◌, ap, ◌∙◌}
 use native.Mathlib.Omega.{arith}
 use lib.ListN.{length, take, drop, length-drop}
 use lib.Seq.{get_or-drop}
@@ -31,6 +31,3 @@ returns c =
     let a = c.args in
     let e : c.loop-i.i ≡ 2 * a.k = omega arith in
     c.loop-i.invariant.1 ∙ ap (λ (x : ℕ). spelt 0 (take x (drop (2 * a.at) a.line.now))) e
-
-pub loop-i-init : goal.loop-i-init
-loop-i-init c = (omega arith, refl)

@@ -1,6 +1,6 @@
 -- `wire::number` meets its contract. The invariant: n is the number of the first i of the bytes, which has room in i bytes.
 use Prim.Native.Nat.{ℕ, ◌+◌, ◌<◌}
-use mathlib.Core.Path.{◌≡◌, refl, ap, ◌∙◌}
+use mathlib.Core.Path.{◌≡◌, ap, ◌∙◌}
 use native.Mathlib.Omega.{arith}
 use lib.ListN.{length, take, drop, length-drop}
 use lib.Seq.{get_or-drop}
@@ -33,6 +33,3 @@ returns c =
     let a = c.args in
     let e : l.i ≡ a.k = omega arith in
     (l.invariant.1 ∙ ap (λ (x : ℕ). joined 0 (take x (drop a.at a.bytes.now))) e, rw (← e) l.invariant.2)
-
-pub loop-i-init : goal.loop-i-init
-loop-i-init c = (omega arith, refl, omega arith)

@@ -45,6 +45,3 @@ returns c =
       summed = l.invariant.3 ∙ ap byte_sum e;
       small = omega arith;
     }
-
-pub bounds-out-o-in-loop-j : goal.bounds-out-o-in-loop-j
-bounds-out-o-in-loop-j c = simp length-set (omega arith)

@@ -1,6 +1,6 @@
 -- `wire::read_bytes` meets its contract. The invariant: the bytes of the first i pairs stand at the front, and no bits say that these are their own digits.
 use Prim.Native.Nat.{ℕ}
-use mathlib.Core.Path.{◌≡◌, refl, ap, ◌∙◌}
+use mathlib.Core.Path.{◌≡◌, ap, ◌∙◌}
 use mathlib.Core.List.{◌++◌}
 use native.Mathlib.Omega.{arith}
 use borrow.Author.Tests.{eqb-true}
@@ -35,6 +35,3 @@ returns c =
       own = λ t. rw (← e) (l.invariant.3.0 (eqb-true l.bits 0 t));
       told = λ t. rw (l.invariant.3.1 (rw e t));
     }
-
-pub loop-i-init : goal.loop-i-init
-loop-i-init c = (omega arith, refl, refl, ((λ e. refl), (λ e. refl)))

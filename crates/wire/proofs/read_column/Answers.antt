@@ -1,6 +1,6 @@
 -- `wire::read_column` meets its contract. The invariant: the first i numbers stand at the front of the row.
 use Prim.Native.Nat.{ℕ, ◌*◌}
-use mathlib.Core.Path.{◌≡◌, refl, ap, ◌∙◌}
+use mathlib.Core.Path.{◌≡◌, ap, ◌∙◌}
 use mathlib.Core.List.{◌++◌}
 use native.Mathlib.Omega.{arith}
 use lib.ListN.{drop, length-set}
@@ -22,6 +22,3 @@ returns c =
     let a = c.args in
     let e : c.loop-i.i ≡ a.n = omega arith in
     c.loop-i.invariant.1 ∙ ap (λ (m : ℕ). column m (drop (2 * a.at) a.line.now) ++ drop m a.row.now) e
-
-pub loop-i-init : goal.loop-i-init
-loop-i-init c = (omega arith, refl, refl)

@@ -1,6 +1,6 @@
 -- `wire::same` meets its contract. The loop's invariant: there are no bits so far only if the places so far are the same.
 use native.Mathlib.Omega.{arith}
-use mathlib.Core.Path.{refl, sym, ap, ◌∙◌}
+use mathlib.Core.Path.{sym, ap, ◌∙◌}
 use lib.ListN.{length}
 use lib.Seq.{take_all}
 use borrow.Author.Tests.{eqb-true}
@@ -24,6 +24,3 @@ returns c =
 
 pub returns-then-a-b : goal.returns-then-a-b
 returns-then-a-b c = ((λ e. cc), (λ e. absurd (c.if-a-b.true (ap length e))))
-
-pub loop-i-init : goal.loop-i-init
-loop-i-init c = (omega arith, ((λ e. refl), (λ e. refl)))

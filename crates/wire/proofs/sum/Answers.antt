@@ -1,5 +1,5 @@
 -- `wire::sum` meets its contract. The invariant: sum is that of the first i bytes, each below 256.
-use mathlib.Core.Path.{refl, ap, ◌∙◌}
+use mathlib.Core.Path.{ap, ◌∙◌}
 use native.Mathlib.Omega.{arith}
 use lib.Seq.{take_all}
 use Rattle.wire.specs.Wire.{byte_sum}
@@ -16,6 +16,3 @@ pub returns : goal.returns
 returns c =
     let l = c.loop-i in
     l.invariant.1 ∙ ap byte_sum (take_all l.i c.args.bytes.now (omega arith))
-
-pub loop-i-init : goal.loop-i-init
-loop-i-init c = (omega arith, refl, omega arith)
