@@ -1,6 +1,6 @@
 // A day's fills booked to a ledger that is lent as its rows, where they stand. The fills are lent as numbers, five each: symbol, side (0 a Bid, 1
-// an Ask), quantity, price, commission. A slice of records cannot be lent without a proof by hand, and numbers of 64 bits let a caller that is not
-// Rattle hand over what is too large for a field, and have it refused.
+// an Ask), quantity, price, commission. Numbers of 64 bits let a caller that is not Rattle hand over what is too large for a field, and have it
+// refused.
 ghost use Rattle.std.specs.Prelude.{◌≡◌, ◌+◌, ◌%◌, ◌<◌, ◌≤◌, true, length, drop, pos, slice_index_or};
 ghost use Rattle.amount.specs.Whole.{amount};
 ghost use Rattle.position.specs.Ledger.{is_ledger};
