@@ -1,4 +1,5 @@
 -- `numbered::list` meets its contract: the book writes the listing that the numbers name.
+use Rattle.orderbook.specs.Lent.{book_at}
 use Prim.Native.Nat.{ℕ}
 use mathlib.Core.Path.{ap, ◌∙◌}
 use mathlib.Core.List.{List}
@@ -14,9 +15,9 @@ pub returns-in-Is : goal.returns-in-Is
 unfolding listed_by
 returns-in-Is c = let w = c in
     let l = c in
-    left-told w.write_at.result _ _ _ c.of_number.ensures w.write_at.ensures ∙ ap (λ (x : Reply (List ℕ)). told_left (written x l.args.out.now)) (answered _ _ _ _ (rw l.in-Is.is at l.listing_of.ensures))
+    left-told w.write_at.result _ _ _ c.of_number.ensures w.write_at.ensures ∙ ap (λ (x : Reply (List ℕ)). told_left (written x l.args.out.now)) (answered (book_at c.args.bp.now c.args.bq.now c.args.ap.now c.args.aq.now c.args.counts) _ _ _ (rw l.in-Is.is at l.listing_of.ensures))
 
 pub returns-in-Refused : goal.returns-in-Refused
 unfolding listed_by
 returns-in-Refused c = let w = c in
-    unwritten _ _ _ _ _ w.in-Refused.why (rw w.in-Refused.is at w.listing_of.ensures) c.refused.ensures
+    unwritten (book_at c.args.bp.now c.args.bq.now c.args.ap.now c.args.aq.now c.args.counts) _ _ _ _ w.in-Refused.why (rw w.in-Refused.is at w.listing_of.ensures) c.refused.ensures
