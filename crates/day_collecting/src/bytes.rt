@@ -34,7 +34,7 @@ fn hold(rt: &impl Eprint, day: Collected, byte: u8, line: &mut [u8]) -> Collecte
         after.held = n + 1;
         return after;
     }
-    fault(rt, day, "longer than 4096 bytes")
+    fault(rt, day, b"longer than 4096 bytes")
 }
 
 fn take_byte(

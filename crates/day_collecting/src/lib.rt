@@ -76,7 +76,7 @@ pub fn collect<R: Eprint + Alloc>(
         turns -= 1;
     }
     if day.more {
-        return fault(rt, day, "too long a day");
+        return fault(rt, day, b"too long a day");
     }
     day
 }

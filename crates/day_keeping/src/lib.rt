@@ -11,6 +11,7 @@ ghost use Rattle.day_keeping.specs.Inner.Keeping.{kept, spoilt, cash_taken, fill
 use amount::Amount;
 use day_lines::Said;
 use holding::Fill;
+use std::str;
 
 // The most fills of a day.
 pub const FILLS: usize = 100_000;
@@ -28,11 +29,14 @@ pub struct Collected {
     pub good: bool,
 }
 
-// Says what is wrong with the line that is read, which ends the reading.
-pub fn fault(rt: &impl Eprint, day: Collected, what: &str) -> Collected
+// Says what is wrong with the line that is read, which ends the reading. Bytes that are no text are said as numbers.
+pub fn fault(rt: &impl Eprint, day: Collected, what: &[u8]) -> Collected
     ensures { result ≡ spoilt day }
 {
-    let _ = eprintln!(rt; "line {}: {what}", day.line);
+    let _ = match str::from_utf8(what) {
+        Ok(text) => eprintln!(rt; "line {}: {text}", day.line),
+        Err(_) => eprintln!(rt; "line {}: {what:?}", day.line),
+    };
     let mut ended = day;
     ended.more = false;
     ended.good = false;
@@ -44,9 +48,9 @@ fn misplaced(rt: &impl Eprint, day: Collected) -> Collected
     ensures { result ≡ spoilt day }
 {
     if day.opened == 0 {
-        return fault(rt, day, "not an opening cash");
+        return fault(rt, day, b"not an opening cash");
     }
-    fault(rt, day, "not a fill")
+    fault(rt, day, b"not a fill")
 }
 
 fn open(rt: &impl Eprint, day: Collected, cash: Amount) -> Collected
@@ -97,7 +101,7 @@ fn keep(
         after.fills = n + 1;
         return after;
     }
-    fault(rt, day, "more than 100000 fills")
+    fault(rt, day, b"more than 100000 fills")
 }
 
 // Takes a line, its line feed left out.
