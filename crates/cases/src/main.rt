@@ -2,6 +2,6 @@
 // stdout, whose answers are literal numbers.
 #![tactic(auto)]
 
-fn main() {
-    replaying::run();
+fn main(rt: HostRuntime) {
+    replaying::run(&rt);
 }

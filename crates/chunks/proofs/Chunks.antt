@@ -1,9 +1,8 @@
 -- Why chunks print what the whole prints: lines split where a line ends, and bytes cut from a line that is too long leave it damaged.
-use Prim.Native.Nat.{ℕ, zero, suc, ◌+◌, ◌≤◌, ◌<◌}
-use mathlib.Core.Bool.{Bool, true, false, cond}
-use mathlib.Core.Option.{Option, none}
-use mathlib.Core.Logic.{⊎_elim}
-use mathlib.Core.Path.{◌≡◌, refl, sym, ap, ◌∙◌}
+use Prim.Native.Nat.{ℕ, zero, suc, ◌≤◌, ◌<◌}
+use mathlib.Core.Bool.{true, false}
+use mathlib.Core.Option.{none}
+use mathlib.Core.Path.{◌≡◌, refl, sym, ap}
 use mathlib.Core.List.{List, [], ◌∷◌, ◌++◌, map, append_assoc, append-nil}
 use native.Mathlib.Omega.{arith}
 use borrow.Author.Tests.{lt-leb, leb-true, leb-false}
@@ -12,13 +11,12 @@ use lib.ListN.{length, take, drop, length-append}
 use lib.Seq.{take_all, length-take-le}
 use Rattle.types.proofs.Booleans.{by}
 use Rattle.wire.specs.Wire.{line_feed}
-use Rattle.frames.specs.Frames.{Frame}
 use Rattle.frames.specs.Decode.{decode}
 use Rattle.types.specs.Bytes.{onto}
 use Rattle.streams.specs.Streams.{lines}
 use Rattle.streams.proofs.Splits.{NoFeed, no_feed_take, ontos, ontos_cons, ontos_nil, lines_on}
 use Rattle.receiver.specs.declared.Receiver.{Receiver}
-use Rattle.receiver.specs.Turns.{Turn, is_receiver, start, turn, taken, turns, heard}
+use Rattle.receiver.specs.Turns.{Turn, start, taken, turns, heard}
 use Rattle.printing.specs.Printed.{next, outcome_line, printed, counted, end_text}
 use Rattle.chunks.specs.Chunks.{onward, whole_end, whole, too_long, kept, joined, fed, PrintsTheSame}
 

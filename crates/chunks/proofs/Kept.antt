@@ -1,5 +1,5 @@
 -- Laws of the two loops: the whole lines from the end of a text, and bytes moved to the front.
-use Prim.Native.Nat.{ℕ, zero, suc, ◌+◌, ◌-◌, ◌≤◌, ◌<◌}
+use Prim.Native.Nat.{ℕ, suc, ◌+◌, ◌-◌, ◌≤◌, ◌<◌}
 use mathlib.Core.Bool.{true, false}
 use mathlib.Core.Path.{◌≡◌, refl, sym, ap, ◌∙◌}
 use mathlib.Core.List.{List, [], ◌∷◌, ◌++◌}
@@ -11,7 +11,7 @@ use lib.ListN.{length, take, drop, get_or, set, length-drop}
 use lib.Seq.{take-suc, take_all, take-take, take-add, drop_at, length-take-le, take-suc-set, drop-set-lt, drop-drop, get_or-drop}
 use Rattle.types.proofs.Booleans.{by}
 use Rattle.wire.specs.Wire.{line_feed}
-use Rattle.chunks.specs.Chunks.{onward, whole_end, too_long}
+use Rattle.chunks.specs.Chunks.{whole_end, too_long}
 
 whole-ended : (xs : List ℕ) (x : ℕ) → eqb x line_feed ≡ true → whole_end (xs ++ (x ∷ [])) ≡ suc (length xs)
 whole-ended [] x e = rw e

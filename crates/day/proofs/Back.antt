@@ -1,5 +1,5 @@
 -- Fills as numbers and back: a fill's own numbers are it again where they fit their bits, and where they do not, both are refused alike.
-use Rattle.std.proofs.Common.{◌≡◌, ℕ, ◌+◌, ◌*◌, ◌%◌, ◌≤◌, Bool, true, false, eqb, List, [], ◌∷◌, ◌++◌, map, length, pos, sym, refl, ap, ◌∙◌, true≢false, arith, le-ltb, eq-eqb, le-leb}
+use Rattle.std.proofs.Common.{◌≡◌, ℕ, ◌*◌, ◌%◌, ◌≤◌, Bool, true, false, eqb, List, [], ◌∷◌, ◌++◌, map, length, pos, sym, refl, ap, ◌∙◌, true≢false, arith, le-ltb, eq-eqb, le-leb}
 use Rattle.types.specs.Named.{side_named, side_number}
 use Rattle.types.specs.declared.Side.{Side}
 use Rattle.types.specs.declared.Side.TheVariants.{Bid, Ask}

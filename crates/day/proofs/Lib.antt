@@ -2,7 +2,5 @@ pub mod Numbers
 pub mod Back
 pub mod Steps
 pub mod Walk
-pub mod Calls
-pub mod Standing
 pub mod Meaning
 pub mod Once

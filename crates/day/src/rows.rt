@@ -1,10 +1,10 @@
 // A day's fills booked to a ledger that is lent as its rows, where they stand. The fills are lent as numbers, five each: symbol, side (0 a Bid, 1
-// an Ask), quantity, price, commission. A slice of records cannot be lent without a proof by hand, and numbers of 64 bits let a caller that is not
-// Rattle hand over what is too large for a field, and have it refused.
+// an Ask), quantity, price, commission. Numbers of 64 bits let a caller that is not Rattle hand over what is too large for a field, and have it
+// refused.
 ghost use Rattle.std.specs.Prelude.{◌≡◌, ◌+◌, ◌%◌, ◌<◌, ◌≤◌, true, length, drop, pos, slice_index_or};
 ghost use Rattle.amount.specs.Whole.{amount};
 ghost use Rattle.position.specs.Ledger.{is_ledger};
-ghost use Rattle.position.specs.Lent.{ledger_at, lent_ledger, left_ledger};
+ghost use Rattle.position.specs.Lent.{ledger_at};
 ghost use Rattle.day.specs.Day.{booked_in_order, rows_day_of};
 ghost use Rattle.day.specs.Numbers.{is_up_to, are_fill, fill_by, first_fill, fills_by, day_booked_by};
 
@@ -93,7 +93,7 @@ fn book_all(
     numbers: &[i64],
 ) -> RowsDay
     requires { (is_ledger (ledger_at quantities.old averages.old realized.old totals) ≡ true) × (length numbers.now % 5 ≡ 0) }
-    ensures { rows_day_of (left_ledger quantities averages realized result.totals) result ≡ booked_in_order (lent_ledger quantities averages realized totals) (fills_by numbers.now) }
+    ensures { rows_day_of (ledger_at quantities.new averages.new realized.new result.totals) result ≡ booked_in_order (ledger_at quantities.old averages.old realized.old totals) (fills_by numbers.now) }
 {
     let mut standing = totals;
     let mut taken = 0;
@@ -129,7 +129,7 @@ pub fn apply_fills(
     totals: Totals,
     numbers: &[i64],
 ) -> RowsDay
-    ensures { rows_day_of (left_ledger quantities averages realized result.totals) result ≡ day_booked_by (lent_ledger quantities averages realized totals) numbers.now }
+    ensures { rows_day_of (ledger_at quantities.new averages.new realized.new result.totals) result ≡ day_booked_by (ledger_at quantities.old averages.old realized.old totals) numbers.now }
 {
     if rows::is_ledger(quantities, averages, realized, totals) {
         if numbers.len() % 5 == 0 {

@@ -18,9 +18,10 @@ use day_collecting::collect;
 use day_keeping::Collected;
 use day_printing::refusals::put_refused;
 use day_printing::{Ended, put_day};
-use inputs::{open_named, write_out};
-use libc::{STDERR_FILENO, STDIN_FILENO};
+use inputs::{is_named, open_named, write_out};
 use position::PositionLedger;
+use std::io::Read;
+use std::rt::Runtime;
 use told::Told;
 use types::Outcome;
 
@@ -100,40 +101,39 @@ fn put_kept(day: Collected, numbers: &[i64; 500000], lines: &[u64; 100000], out:
 }
 
 // Books a day that was read, and writes what is printed of it.
-fn book(day: Collected, numbers: &[i64; 500000], lines: &[u64; 100000])
+fn book(rt: &impl Runtime, day: Collected, numbers: &[i64; 500000], lines: &[u64; 100000])
     requires { Within day × (day.good ≡ true) × (day.opened ≡ 0 → ⊥) × ((text : List ℕ) × KeptOf text (kept day numbers.now lines.now)) }
 {
-    let mut space = io::buffer();
+    let mut space = [0u8; 4096];
     let out: &mut [u8] = &mut space;
     let used = put_kept(day, numbers, lines, out);
-    write_out(out, used);
+    write_out(rt, out, used);
 }
 
 // Reads a day, and books it if it is one.
-fn take_day(fd: i32, name: &[u8]) {
+fn take_day(rt: &impl Runtime, input: &mut impl Read, name: &[u8]) {
     let mut numbers = [0i64; 500000];
     let mut lines = [0u64; 100000];
-    let day = collect(fd, name, &mut numbers, &mut lines);
+    let day = collect(rt, input, name, &mut numbers, &mut lines);
     if day.good {
         if day.opened == 0 {
-            io::write_all(STDERR_FILENO, b"the day has no opening cash\n");
+            let _ = eprintln!(rt; "the day has no opening cash");
         } else {
-            book(day, &numbers, &lines);
+            book(rt, day, &numbers, &lines);
         }
     }
 }
 
 // The program.
-pub fn take() {
-    if os::arg_count() < 2 {
-        take_day(STDIN_FILENO, b"stdin");
+pub fn take(rt: &impl Runtime) {
+    if !is_named(rt) {
+        take_day(rt, &mut rt.reader(), b"stdin");
         return;
     }
-    let mut path = io::buffer();
-    let named = open_named(&mut path);
+    let mut path = [0u8; 4096];
+    let named = open_named(rt, &mut path);
     let end = named.length;
-    if named.fd >= 0 {
-        take_day(named.fd, &path[..end]);
-        libc::close(named.fd);
+    if let Some(mut file) = named.file {
+        take_day(rt, &mut file, &path[..end]);
     }
 }

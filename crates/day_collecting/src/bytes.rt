@@ -9,6 +9,7 @@ const LINE_FEED: u8 = 10;
 
 // The line that is held ends.
 fn end_line(
+    rt: &impl Eprint,
     day: Collected,
     line: &[u8],
     numbers: &mut [i64; 500000],
@@ -18,11 +19,11 @@ fn end_line(
     ensures { Within result × (result.held ≡ 0) × (kept result numbers.new lines.new ≡ line_ended (held_in day line.now) (kept day numbers.old lines.old)) }
 {
     let end = day.held;
-    next_line(take_line(day, &line[..end], numbers, lines))
+    next_line(take_line(rt, day, &line[..end], numbers, lines))
 }
 
 // A byte that is no line feed.
-fn hold(day: Collected, byte: u8, line: &mut [u8]) -> Collected
+fn hold(rt: &impl Eprint, day: Collected, byte: u8, line: &mut [u8]) -> Collected
     requires { Within day × (length line.old ≡ 4096) × (day.more ≡ true) × (byte ≡ 10 → ⊥) }
     ensures { Within result × ((numbers : List ℤ) (lines : List ℕ) → Goes (kept day numbers lines) (held_in day line.old) (byte ∷ []) (kept result numbers lines) (held_in result line.new)) }
 {
@@ -33,10 +34,11 @@ fn hold(day: Collected, byte: u8, line: &mut [u8]) -> Collected
         after.held = n + 1;
         return after;
     }
-    fault(day, b"longer than 4096 bytes")
+    fault(rt, day, "longer than 4096 bytes")
 }
 
 fn take_byte(
+    rt: &impl Eprint,
     day: Collected,
     byte: u8,
     line: &mut [u8],
@@ -47,13 +49,14 @@ fn take_byte(
     ensures { Within result × Goes (kept day numbers.old lines.old) (held_in day line.old) (byte ∷ []) (kept result numbers.new lines.new) (held_in result line.new) }
 {
     if byte == LINE_FEED {
-        return end_line(day, line, numbers, lines);
+        return end_line(rt, day, line, numbers, lines);
     }
-    hold(day, byte, line)
+    hold(rt, day, byte, line)
 }
 
 // Bytes, until nothing more is to be read.
 pub fn take_bytes(
+    rt: &impl Eprint,
     day: Collected,
     bytes: &[u8],
     line: &mut [u8],
@@ -66,7 +69,7 @@ pub fn take_bytes(
     let mut after = day;
     let mut i = 0;
     while i < bytes.len() && after.more {
-        after = take_byte(after, bytes[i], line, numbers, lines);
+        after = take_byte(rt, after, bytes[i], line, numbers, lines);
         i += 1;
     }
     after
@@ -74,6 +77,7 @@ pub fn take_bytes(
 
 // The end of the text: what is held is the last line.
 pub fn take_last(
+    rt: &impl Eprint,
     day: Collected,
     line: &[u8],
     numbers: &mut [i64; 500000],
@@ -84,7 +88,7 @@ pub fn take_last(
 {
     let mut after = day;
     if day.held > 0 {
-        after = end_line(day, line, numbers, lines);
+        after = end_line(rt, day, line, numbers, lines);
     }
     after.more = false;
     after

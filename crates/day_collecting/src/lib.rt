@@ -11,14 +11,17 @@ mod bytes; // bytes.rt: the bytes of a text, one by one
 use amount::Amount;
 use bytes::{take_bytes, take_last};
 use day_keeping::{Collected, fault};
+use inputs::fail;
+use std::io::Read;
 
 // The most reads: a text of so many is not read to its end.
 const TURNS: u64 = 1_099_511_627_776;
 
 // Reads once and takes what came.
-fn take_some(
+fn take_some<R: Eprint + Alloc>(
+    rt: &R,
     day: Collected,
-    fd: i32,
+    input: &mut impl Read,
     name: &[u8],
     chunk: &mut [u8],
     line: &mut [u8],
@@ -28,24 +31,23 @@ fn take_some(
     requires { Within day × (day.more ≡ true) × (length chunk.old ≡ 65536) × (length line.old ≡ 4096) }
     ensures { Within result × ((result.more || result.good) ≡ true → Took 65536 (kept day numbers.old lines.old) (held_in day line.old) (kept result numbers.new lines.new) (held_in result line.new)) }
 {
-    let got = libc::read(fd, chunk);
-    let n = io::count(got, chunk);
-    if got > 0 {
-        return take_bytes(day, &chunk[..n], line, numbers, lines);
+    match input.read(chunk) {
+        Ok(0) => take_last(rt, day, line, numbers, lines),
+        Ok(n) => take_bytes(rt, day, &chunk[..n], line, numbers, lines),
+        Err(why) => {
+            fail(rt, name, why);
+            let mut failed = day;
+            failed.more = false;
+            failed.good = false;
+            failed
+        }
     }
-    if got == 0 {
-        return take_last(day, line, numbers, lines);
-    }
-    os::fail(name);
-    let mut failed = day;
-    failed.more = false;
-    failed.good = false;
-    failed
 }
 
 // Reads until nothing more is to be read.
-pub fn collect(
-    fd: i32,
+pub fn collect<R: Eprint + Alloc>(
+    rt: &R,
+    input: &mut impl Read,
     name: &[u8],
     numbers: &mut [i64; 500000],
     lines: &mut [u64; 100000],
@@ -55,8 +57,8 @@ pub fn collect(
     // as slices, they are known to have room for 100,000 fills
     let all: &[i64] = numbers;
     let each: &[u64] = lines;
-    let mut space = io::large_buffer();
-    let mut room = io::buffer();
+    let mut space = [0u8; 65536];
+    let mut room = [0u8; 4096];
     let chunk: &mut [u8] = &mut space;
     let line: &mut [u8] = &mut room;
     let mut day = Collected {
@@ -70,11 +72,11 @@ pub fn collect(
     };
     let mut turns = TURNS;
     while turns > 0 && day.more {
-        day = take_some(day, fd, name, chunk, line, numbers, lines);
+        day = take_some(rt, day, input, name, chunk, line, numbers, lines);
         turns -= 1;
     }
     if day.more {
-        return fault(day, b"too long a day");
+        return fault(rt, day, "too long a day");
     }
     day
 }

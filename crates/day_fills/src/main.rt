@@ -1,6 +1,6 @@
 // The day program. Run by `rt check` on the worked day.
 #![tactic(auto)]
 
-fn main() {
-    day_booking::take();
+fn main(rt: HostRuntime) {
+    day_booking::take(&rt);
 }

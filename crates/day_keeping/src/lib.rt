@@ -11,7 +11,6 @@ ghost use Rattle.day_keeping.specs.Inner.Keeping.{kept, spoilt, cash_taken, fill
 use amount::Amount;
 use day_lines::Said;
 use holding::Fill;
-use libc::STDERR_FILENO;
 
 // The most fills of a day.
 pub const FILLS: usize = 100_000;
@@ -30,14 +29,10 @@ pub struct Collected {
 }
 
 // Says what is wrong with the line that is read, which ends the reading.
-pub fn fault(day: Collected, what: &[u8]) -> Collected
+pub fn fault(rt: &impl Eprint, day: Collected, what: &str) -> Collected
     ensures { result ≡ spoilt day }
 {
-    io::write_all(STDERR_FILENO, b"line ");
-    io::print_decimal(STDERR_FILENO, day.line);
-    io::write_all(STDERR_FILENO, b": ");
-    io::write_all(STDERR_FILENO, what);
-    io::write_all(STDERR_FILENO, b"\n");
+    let _ = eprintln!(rt; "line {}: {what}", day.line);
     let mut ended = day;
     ended.more = false;
     ended.good = false;
@@ -45,16 +40,16 @@ pub fn fault(day: Collected, what: &[u8]) -> Collected
 }
 
 // The line is none that a day may have here.
-fn misplaced(day: Collected) -> Collected
+fn misplaced(rt: &impl Eprint, day: Collected) -> Collected
     ensures { result ≡ spoilt day }
 {
     if day.opened == 0 {
-        return fault(day, b"not an opening cash");
+        return fault(rt, day, "not an opening cash");
     }
-    fault(day, b"not a fill")
+    fault(rt, day, "not a fill")
 }
 
-fn open(day: Collected, cash: Amount) -> Collected
+fn open(rt: &impl Eprint, day: Collected, cash: Amount) -> Collected
     ensures { result ≡ cash_taken cash day }
 {
     if day.opened == 0 {
@@ -63,7 +58,7 @@ fn open(day: Collected, cash: Amount) -> Collected
         after.cash = cash;
         return after;
     }
-    misplaced(day)
+    misplaced(rt, day)
 }
 
 // Puts the numbers of a fill at a place: symbol, side (0 a bid, 1 an ask), quantity, price, commission.
@@ -86,6 +81,7 @@ fn put_fill(numbers: &mut [i64; 500000], at: usize, fill: Fill)
 
 // Keeps a fill, and the line of it.
 fn keep(
+    rt: &impl Eprint,
     day: Collected,
     fill: Fill,
     numbers: &mut [i64; 500000],
@@ -101,11 +97,12 @@ fn keep(
         after.fills = n + 1;
         return after;
     }
-    fault(day, b"more than 100000 fills")
+    fault(rt, day, "more than 100000 fills")
 }
 
 // Takes a line, its line feed left out.
 pub fn take_line(
+    rt: &impl Eprint,
     day: Collected,
     line: &[u8],
     numbers: &mut [i64; 500000],
@@ -115,15 +112,15 @@ pub fn take_line(
 {
     match day_lines::read(line) {
         Said::Nothing => day,
-        Said::Cash(cash) => open(day, cash),
+        Said::Cash(cash) => open(rt, day, cash),
         Said::Fill(fill) => {
             if day.opened == 0 {
-                misplaced(day)
+                misplaced(rt, day)
             } else {
-                keep(day, fill, numbers, lines)
+                keep(rt, day, fill, numbers, lines)
             }
         }
-        Said::Other => misplaced(day),
+        Said::Other => misplaced(rt, day),
     }
 }
 

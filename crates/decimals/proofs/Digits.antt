@@ -8,7 +8,7 @@ use native.Mathlib.Nat.{pow-suc}
 use borrow.Author.Tests.{lt-ltb, le-ltb}
 use lib.Dec.{ltb}
 use lib.ListN.{length, length-append}
-use Rattle.io.specs.Digits.{hex_digit_ascii, last_digits, IsDigitCount}
+use Rattle.io.specs.Digits.{hex_digit_ascii, last_digits as io_digits, IsDigitCount}
 use Rattle.decimals.specs.Decimals.{digit, last_digits, decimal, signed_decimal, pair}
 
 glyph_digit : (d : ℕ) → d < 10 → hex_digit_ascii d ≡ digit d
@@ -23,7 +23,7 @@ positive zero = omega arith
 positive (suc k) = let h = positive k in rw (pow-suc 10 k) (omega arith)
 
 -- the fewest digits that hold a number are its decimal
-fewest_digits : (f k n : ℕ) → n < 10 ^ suc f → IsDigitCount 10 1 n k → last_digits 10 k n ≡ last_digits (suc f) n
+fewest_digits : (f k n : ℕ) → n < 10 ^ suc f → IsDigitCount 10 1 n k → io_digits 10 k n ≡ last_digits (suc f) n
 unfolding last_digits
 fewest_digits f zero n h w = absurd (omega arith)
 fewest_digits f (suc zero) n h w =
@@ -43,13 +43,13 @@ fewest_digits (suc f) (suc (suc k)) n h w =
     let two : suc k - 1 ≡ k = omega arith in
     let large : 10 ≤ n = omega (arith, positive k, pow-suc 10 k) in
     let inner : n / 10 < 10 ^ suc f = omega (arith, pow-suc 10 (suc f)) in
-    let front : last_digits 10 (suc k) (n / 10) ≡ last_digits (suc f) (n / 10) =
+    let front : io_digits 10 (suc k) (n / 10) ≡ last_digits (suc f) (n / 10) =
     fewest_digits f (suc k) (n / 10) inner (omega arith, rw (pow-suc 10 k) t.1, λ m. rw two t.0) in
     let low : n % 10 < 10 = omega arith in
     rw (le-ltb n 10 large, front, glyph_digit (n % 10) low)
 
 -- what io promises of a number is its decimal
-pub io_decimal : (n k : ℕ) (xs : List ℕ) → n < 2 ^ 64 → IsDigitCount 10 1 n k → xs ≡ last_digits 10 k n → xs ≡ decimal n
+pub io_decimal : (n k : ℕ) (xs : List ℕ) → n < 2 ^ 64 → IsDigitCount 10 1 n k → xs ≡ io_digits 10 k n → xs ≡ decimal n
 io_decimal n k xs h w e =
     let fits : n < 10 ^ 20 = omega arith in
     e ∙ fewest_digits 19 k n fits w

@@ -5,7 +5,7 @@ use Rattle.told.specs.declared.Told.{Told}
 use Rattle.told.specs.Numbers.{told, tell, nothing}
 use Rattle.deltas.specs.declared.Counts.{Counts}
 use Rattle.listings.specs.declared.Listing.{Listing}
-use Rattle.orderbook.specs.Lent.{Row, lent_book, left_book}
+use Rattle.orderbook.specs.Lent.{Row, book_at, lent_book}
 use Rattle.questions.specs.Asked.{Value}
 use Rattle.receiver.specs.declared.Receiver.{Receiver}
 use Rattle.receiver.specs.Turns.{Turn, taken}
@@ -14,13 +14,13 @@ use Rattle.names.specs.Names.{question_by, listing_by, reply_to}
 use Rattle.names.specs.Kinds.{state_if, state_number}
 use Rattle.exports.specs.declared.Held.{Held}
 
--- a receiver that is lent as its rows, with its state's number and its counts, as it was lent
+-- the record that bid prices, bid quantities, ask prices, ask quantities, a state's number and the counts make
+abbrev pub held_at : List ℕ → List ℕ → List ℕ → List ℕ → ℕ → Counts → Held
+held_at bp bq ap aq n c = record { state = n; book = book_at bp bq ap aq c }
+
+-- a receiver that is lent as its rows to be read, with its state's number and its counts
 abbrev pub lent_held : Row → Row → Row → Row → ℕ → Counts → Held
 lent_held bp bq ap aq n c = record { state = n; book = lent_book bp bq ap aq c }
-
--- and as the call returns
-abbrev pub left_held : Row → Row → Row → Row → ℕ → Counts → Held
-left_held bp bq ap aq n c = record { state = n; book = left_book bp bq ap aq c }
 
 -- a state is 0 or 1
 abbrev pub is_state : Held → Bool

@@ -2,7 +2,7 @@
 ghost use Rattle.std.specs.Prelude.{◌≡◌};
 ghost use Rattle.types.specs.Answers.{reply_of_outcome};
 ghost use Rattle.position.specs.Ledger.{is_ledger, created, deposited};
-ghost use Rattle.position.specs.Lent.{lent_ledger, left_ledger};
+ghost use Rattle.position.specs.Lent.{ledger_at, lent_ledger};
 ghost use Rattle.valuation.specs.Values.{unrealized};
 ghost use Rattle.day.specs.Numbers.{day_booked_by};
 ghost use Rattle.told.specs.Numbers.{tell, nothing, one_amount};
@@ -96,7 +96,7 @@ pub extern "C" fn wermazul_apply_fill(
     price: u32,
     commission: i64,
 ) -> TotalsTold
-    ensures { record { ledger = left_ledger quantities averages realized result.totals; told = result.told } ≡ ledger_told (booked_by (lent_ledger quantities averages realized totals) symbol side quantity price commission) }
+    ensures { record { ledger = ledger_at quantities.new averages.new realized.new result.totals; told = result.told } ≡ ledger_told (booked_by (ledger_at quantities.old averages.old realized.old totals) symbol side quantity price commission) }
 {
     if side > 1 {
         return TotalsTold {
@@ -117,7 +117,7 @@ pub extern "C" fn wermazul_apply_fills(
     totals: Totals,
     numbers: &[i64],
 ) -> DayTold
-    ensures { record { ledger = left_ledger quantities averages realized result.totals; taken = result.taken; told = result.told } ≡ day_told (day_booked_by (lent_ledger quantities averages realized totals) numbers.now) }
+    ensures { record { ledger = ledger_at quantities.new averages.new realized.new result.totals; taken = result.taken; told = result.told } ≡ day_told (day_booked_by (ledger_at quantities.old averages.old realized.old totals) numbers.now) }
 {
     let booked = day::rows::apply_fills(quantities, averages, realized, totals, numbers);
     let totals = booked.totals;

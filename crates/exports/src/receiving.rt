@@ -6,7 +6,7 @@ ghost use Rattle.told.specs.Numbers.{tell, one_number};
 ghost use Rattle.questions.specs.Asked.{values_in};
 ghost use Rattle.receiver.specs.Turns.{start};
 ghost use Rattle.numbered.specs.Memory.{told_left};
-ghost use Rattle.exports.specs.Receivers.{held_of, lent_held, left_held, taken_by, held_ask, held_numbers};
+ghost use Rattle.exports.specs.Receivers.{held_of, held_at, lent_held, taken_by, held_ask, held_numbers};
 
 use crate::{Held, TurnTold};
 use deltas::Counts;
@@ -38,7 +38,7 @@ pub extern "C" fn wermazul_take_line(
     counts: Counts,
     line: &[u8],
 ) -> TurnTold
-    ensures { record { receiver = left_held bp bq ap aq result.state result.counts; told = result.told } ≡ taken_by (lent_held bp bq ap aq state counts) line.now }
+    ensures { record { receiver = held_at bp.new bq.new ap.new aq.new result.state result.counts; told = result.told } ≡ taken_by (held_at bp.old bq.old ap.old aq.old state counts) line.now }
 {
     if state > 1 {
         return TurnTold {

@@ -1,6 +1,6 @@
 // The feed program, run here on the four lines of examples/four.feed.
 #![tactic(auto)]
 
-fn main() {
-    feeding::take();
+fn main(rt: HostRuntime) {
+    feeding::take(&rt);
 }

@@ -1,6 +1,6 @@
 // The feed program on a feed with each kind of damage.
 #![tactic(auto)]
 
-fn main() {
-    feeding::take();
+fn main(rt: HostRuntime) {
+    feeding::take(&rt);
 }

@@ -3,15 +3,17 @@
 // `printing`. No contract can say what is read or written: this is proved safe and ending, and run.
 #![tactic(auto)]
 
-ghost use Rattle.std.specs.Prelude.{◌≡◌, ◌*◌, ◌≤◌, length};
+ghost use Rattle.std.specs.Prelude.{◌≡◌, ◌*◌, ◌≤◌, length, IfOk};
 
 use chunks::{keep, whole_lines};
 use deltas::Counts;
-use inputs::{open_named, write_out};
-use libc::STDIN_FILENO;
+use inputs::{fail, is_named, open_named, write_out};
 use printing::ends::put_end;
 use printing::{Heard, take_lines};
 use receiver::State;
+use std::io;
+use std::io::Read;
+use std::rt::Runtime;
 
 // What was heard so far, how many bytes of the input buffer wait for their line feed, whether more is to be read, and whether all has gone
 // well: after a failure nothing is printed.
@@ -30,26 +32,19 @@ fn output() -> [u8; 1572864]
     [0; 1572864]
 }
 
-// Reads into the buffer after what is held.
-fn read_after(fd: i32, buf: &mut [u8], held: usize) -> isize {
-    if held > buf.len() {
-        return 0;
-    }
-    libc::read(fd, &mut buf[held..])
-}
-
-// How many bytes the buffer holds after a read.
-fn filled(buf: &[u8], held: usize, got: isize) -> usize
-    ensures { result ≤ length buf.now }
+// Reads into the buffer after what is held, and answers how many bytes it holds then.
+fn read_after(input: &mut impl Read, buf: &mut [u8], held: usize) -> io::Result<usize>
+    ensures { IfOk result (λ end. end ≤ length buf.new) }
 {
     if held > buf.len() {
-        return 0;
+        return Ok(0);
     }
-    held + io::count(got, &buf[held..])
+    Ok(held + input.read(&mut buf[held..])?)
 }
 
 // Takes the lines of a text and writes their outcomes.
 fn take_text(
+    rt: &impl Runtime,
     bp: &mut [u32; 128],
     bq: &mut [u32; 128],
     ap: &mut [u32; 128],
@@ -63,7 +58,7 @@ fn take_text(
     let mut before = heard;
     before.used = 0;
     let after = take_lines(bp, bq, ap, aq, before, text, out);
-    let good = write_out(out, after.used);
+    let good = write_out(rt, out, after.used);
     Run {
         heard: after,
         held: 0,
@@ -74,6 +69,7 @@ fn take_text(
 
 // Takes the whole lines among the first bytes of the buffer, and keeps the rest.
 fn take_front(
+    rt: &impl Runtime,
     bp: &mut [u32; 128],
     bq: &mut [u32; 128],
     ap: &mut [u32; 128],
@@ -86,14 +82,15 @@ fn take_front(
     requires { (end ≤ length buf.old) × (24 * length buf.old ≤ length out.old) }
 {
     let whole = whole_lines(&buf[..end]);
-    let mut next = take_text(bp, bq, ap, aq, heard, &buf[..whole], out);
+    let mut next = take_text(rt, bp, bq, ap, aq, heard, &buf[..whole], out);
     next.held = keep(buf, whole, end);
     next
 }
 
 // Reads once and takes what came. At the end of the input what is held is the last line.
 fn take_some(
-    fd: i32,
+    rt: &impl Runtime,
+    input: &mut impl Read,
     name: &[u8],
     bp: &mut [u32; 128],
     bq: &mut [u32; 128],
@@ -105,17 +102,16 @@ fn take_some(
 ) -> Run
     requires { 24 * length buf.old ≤ length out.old }
 {
-    let got = read_after(fd, buf, run.held);
-    let end = filled(buf, run.held, got);
-    if got > 0 {
-        return take_front(bp, bq, ap, aq, run.heard, buf, end, out);
-    }
     let mut last = run;
-    if got < 0 {
-        os::fail(name);
-        last.good = false;
-    } else {
-        last = take_text(bp, bq, ap, aq, run.heard, &buf[..end], out);
+    match read_after(input, buf, run.held) {
+        Ok(end) if end > run.held => {
+            return take_front(rt, bp, bq, ap, aq, run.heard, buf, end, out);
+        }
+        Ok(end) => last = take_text(rt, bp, bq, ap, aq, run.heard, &buf[..end], out),
+        Err(why) => {
+            fail(rt, name, why);
+            last.good = false;
+        }
     }
     last.more = false;
     last
@@ -123,7 +119,8 @@ fn take_some(
 
 // Reads until nothing more is to be read. No input is as many reads long as the turns counted down here.
 fn take_all(
-    fd: i32,
+    rt: &impl Runtime,
+    input: &mut impl Read,
     name: &[u8],
     bp: &mut [u32; 128],
     bq: &mut [u32; 128],
@@ -152,40 +149,41 @@ fn take_all(
     };
     let mut turns = u64::MAX;
     while turns > 0 && run.more {
-        run = take_some(fd, name, bp, bq, ap, aq, run, buf, out);
+        run = take_some(rt, input, name, bp, bq, ap, aq, run, buf, out);
         turns -= 1;
     }
     run
 }
 
-fn take_feed(fd: i32, name: &[u8]) {
+fn take_feed(rt: &impl Runtime, input: &mut impl Read, name: &[u8]) {
     let mut bp = [0u32; 128];
     let mut bq = [0u32; 128];
     let mut ap = [0u32; 128];
     let mut aq = [0u32; 128];
-    let mut space = io::large_buffer();
+    let mut space = [0u8; 65536];
     let mut print = output();
     let buf: &mut [u8] = &mut space;
     let out: &mut [u8] = &mut print;
-    let end = take_all(fd, name, &mut bp, &mut bq, &mut ap, &mut aq, buf, out);
+    let end = take_all(
+        rt, input, name, &mut bp, &mut bq, &mut ap, &mut aq, buf, out,
+    );
     if end.good {
         let heard = end.heard;
         let state = heard.state;
         let used = put_end(&bp, &bq, &ap, &aq, state, heard.counts, out, 0);
-        write_out(out, used);
+        write_out(rt, out, used);
     }
 }
 
-pub fn take() {
-    if os::arg_count() < 2 {
-        take_feed(STDIN_FILENO, b"stdin");
+pub fn take(rt: &impl Runtime) {
+    if !is_named(rt) {
+        take_feed(rt, &mut rt.reader(), b"stdin");
         return;
     }
-    let mut path = io::buffer();
-    let named = open_named(&mut path);
+    let mut path = [0u8; 4096];
+    let named = open_named(rt, &mut path);
     let end = named.length;
-    if named.fd >= 0 {
-        take_feed(named.fd, &path[..end]);
-        libc::close(named.fd);
+    if let Some(mut file) = named.file {
+        take_feed(rt, &mut file, &path[..end]);
     }
 }

@@ -5,7 +5,6 @@ use mathlib.Core.Option.{some}
 use mathlib.Core.Path.{◌≡◌, refl, sym, ap, ◌∙◌}
 use native.Mathlib.Omega.{arith}
 use borrow.Author.Tests.{le-leb}
-use Rattle.types.specs.Replies.{done}
 use Rattle.types.specs.Limits.{is_price, is_quantity, last_sequence}
 use Rattle.types.specs.declared.Side.TheVariants.{Bid, Ask}
 use Rattle.levels.proofs.Tables.{table-back}
@@ -19,7 +18,7 @@ use Rattle.orderbook.specs.Inner.Long.{Long}
 use Rattle.orderbook.proofs.Books.{a_book}
 use Rattle.frames.specs.Frames.{delta, snapshot, book_of, snapshot_of, encode, is_whole, IsWhole}
 use Rattle.frames.specs.Decode.{decode}
-use Rattle.frames.specs.Sent.{sent_quantity, as_sent, delta_line, snapshot_line}
+use Rattle.frames.specs.Sent.{sent_quantity, as_sent}
 use Rattle.frames.specs.OneLine.{ReadsExactly, OneLine, DeltaReadsBack, BookReadsBack}
 use Rattle.frames.proofs.Whole.{emptied, whole-delta}
 use Rattle.frames.proofs.Reading.{reads, only}

@@ -11,7 +11,7 @@ use orderbook::{Applied, OrderBook};
 use types::Outcome;
 
 pub fn apply_delta(book: &mut OrderBook, delta: BookDelta) -> Outcome
-    ensures { record { book = book.exit.now; reply = reply_of_outcome result } ≡ applied book.entry.now delta }
+    ensures { record { book = book.new; reply = reply_of_outcome result } ≡ applied book.old delta }
 {
     let r = (*book).apply_delta(delta);
     *book = r.book;

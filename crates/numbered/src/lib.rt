@@ -8,7 +8,7 @@ ghost use Rattle.types.specs.Replies.{map_reply};
 ghost use Rattle.types.specs.Written.{fitted, written};
 ghost use Rattle.told.specs.Numbers.{tell, nothing, one_number};
 ghost use Rattle.orderbook.specs.Apply.{cleared};
-ghost use Rattle.orderbook.specs.Lent.{lent_book, left_book};
+ghost use Rattle.orderbook.specs.Lent.{book_at, lent_book};
 ghost use Rattle.questions.specs.Asked.{values_in};
 ghost use Rattle.numbered.specs.Books.{book_told, applied_by, cleared_by, asked_by, listed_by};
 ghost use Rattle.numbered.specs.Memory.{told_left};
@@ -52,7 +52,7 @@ pub fn apply_delta(
     quantity: u32,
     sequence: u64,
 ) -> CountsTold
-    ensures { record { book = left_book bp bq ap aq result.counts; told = result.told } ≡ book_told (applied_by (lent_book bp bq ap aq counts) side action price quantity sequence) }
+    ensures { record { book = book_at bp.new bq.new ap.new aq.new result.counts; told = result.told } ≡ book_told (applied_by (book_at bp.old bq.old ap.old aq.old counts) side action price quantity sequence) }
 {
     match names::delta_of(side, action, price, quantity, sequence) {
         DeltaAnswer::Is(delta) => given(rows::apply_delta(bp, bq, ap, aq, counts, delta)),
@@ -70,7 +70,7 @@ pub fn clear(
     aq: &mut [u32; 128],
     counts: Counts,
 ) -> CountsTold
-    ensures { record { book = left_book bp bq ap aq result.counts; told = result.told } ≡ book_told (cleared (lent_book bp bq ap aq counts)) }
+    ensures { record { book = book_at bp.new bq.new ap.new aq.new result.counts; told = result.told } ≡ book_told (cleared (book_at bp.old bq.old ap.old aq.old counts)) }
 {
     given(rows::clear(bp, bq, ap, aq, counts))
 }
@@ -84,7 +84,7 @@ pub fn remove_all(
     counts: Counts,
     side: u64,
 ) -> CountsTold
-    ensures { record { book = left_book bp bq ap aq result.counts; told = result.told } ≡ book_told (cleared_by (lent_book bp bq ap aq counts) side) }
+    ensures { record { book = book_at bp.new bq.new ap.new aq.new result.counts; told = result.told } ≡ book_told (cleared_by (book_at bp.old bq.old ap.old aq.old counts) side) }
 {
     if side > 1 {
         return CountsTold {

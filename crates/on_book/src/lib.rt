@@ -10,9 +10,9 @@ use questions::numbered::Named;
 use told::Told;
 use types::{NumberAnswer, Side};
 
-fn changed(a: Applied) -> OrderBook {
+fn changed(rt: &impl Print, a: Applied) -> OrderBook {
     let outcome = a.outcome;
-    output::told(Told::of_outcome(outcome));
+    output::told(rt, Told::of_outcome(outcome));
     a.book
 }
 
@@ -39,44 +39,44 @@ fn listing(line: &[u8]) -> NamedListing {
 }
 
 // The first `n` numbers of a list.
-fn values(list: &[u32], n: u64) {
+fn values(rt: &impl Print, list: &[u32], n: u64) {
     let mut i = 0;
     while i < list.len() {
         if i as u64 >= n {
             return;
         }
-        output::value(list[i] as u64);
+        output::value(rt, list[i] as u64);
         i += 1;
     }
 }
 
 // A listing in a buffer with room for any.
-fn listed(book: OrderBook, listing: Listing) {
+fn listed(rt: &impl Print, book: OrderBook, listing: Listing) {
     let mut list = [0u32; 512];
     let written = listings::write(book, listing, &mut list);
-    output::told(Told::of_number(written));
+    output::told(rt, Told::of_number(written));
     if let NumberAnswer::Is(n) = written {
-        values(&list, n);
+        values(rt, &list, n);
     }
 }
 
 // A listing, or how many places it fills in a buffer of so many.
-fn listings_of(book: OrderBook, places: bool, line: &[u8]) {
+fn listings_of(rt: &impl Print, book: OrderBook, places: bool, line: &[u8]) {
     match listing(line) {
         NamedListing::Is(listing) => {
             if places {
                 let room = number(line, 5) as usize;
-                output::told(Told::of_number(listings::places(book, listing, room)));
+                output::told(rt, Told::of_number(listings::places(book, listing, room)));
             } else {
-                listed(book, listing);
+                listed(rt, book, listing);
             }
         }
-        NamedListing::Refused(why) => output::told(Told::of_refusal(why)),
+        NamedListing::Refused(why) => output::told(rt, Told::of_refusal(why)),
     }
 }
 
 // The record with another count of a side, which may be no book.
-fn with_count(mut book: OrderBook, of: Side, count: usize) -> OrderBook {
+fn with_count(rt: &impl Print, mut book: OrderBook, of: Side, count: usize) -> OrderBook {
     match of {
         Side::Bid => {
             book.bids.count = count;
@@ -85,33 +85,33 @@ fn with_count(mut book: OrderBook, of: Side, count: usize) -> OrderBook {
             book.asks.count = count;
         }
     }
-    output::number(0);
+    output::number(rt, 0);
     book
 }
 
-fn with_sequence(mut book: OrderBook, sequence: u64) -> OrderBook {
+fn with_sequence(rt: &impl Print, mut book: OrderBook, sequence: u64) -> OrderBook {
     book.sequence = sequence;
-    output::number(0);
+    output::number(rt, 0);
     book
 }
 
-pub fn step(book: OrderBook, kind: u64, line: &[u8]) -> OrderBook {
+pub fn step(rt: &impl Print, book: OrderBook, kind: u64, line: &[u8]) -> OrderBook {
     match kind {
         0 => {
-            output::number(0);
+            output::number(rt, 0);
             return OrderBook::new();
         }
-        1 => return changed(book.apply_delta(delta(line))),
-        2 => return changed(book.clear()),
-        3 => return changed(book.remove_all(side(line, 1))),
-        4 => output::answer_cut(asked(book, line)),
-        5 => listings_of(book, false, line),
-        12 => output::answer_exact(asked(book, line)),
-        13 => listings_of(book, true, line),
-        14 => return with_count(book, side(line, 1), number(line, 2) as usize),
-        15 => return with_sequence(book, number(line, 1)),
-        18 => return changed(lent::apply_delta_over(book, delta(line))),
-        _ => output::put(b"?"),
+        1 => return changed(rt, book.apply_delta(delta(line))),
+        2 => return changed(rt, book.clear()),
+        3 => return changed(rt, book.remove_all(side(line, 1))),
+        4 => output::answer_cut(rt, asked(book, line)),
+        5 => listings_of(rt, book, false, line),
+        12 => output::answer_exact(rt, asked(book, line)),
+        13 => listings_of(rt, book, true, line),
+        14 => return with_count(rt, book, side(line, 1), number(line, 2) as usize),
+        15 => return with_sequence(rt, book, number(line, 1)),
+        18 => return changed(rt, lent::apply_delta_over(book, delta(line))),
+        _ => output::put(rt, b"?"),
     }
     book
 }

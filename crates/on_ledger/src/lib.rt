@@ -8,23 +8,29 @@ use position::{Booked, PositionLedger};
 use told::Told;
 use types::{Outcome, SYMBOLS};
 
-fn changed(b: Booked) -> PositionLedger {
+fn changed(rt: &impl Print, b: Booked) -> PositionLedger {
     let outcome = b.outcome;
-    output::told(Told::of_outcome(outcome));
+    output::told(rt, Told::of_outcome(outcome));
     b.ledger
 }
 
 // Quantity, average and realized profit of a symbol.
-fn position(ledger: PositionLedger, symbol: u32) {
+fn position(rt: &impl Print, ledger: PositionLedger, symbol: u32) {
     let i = symbol as usize;
     if i < SYMBOLS {
-        output::amount(Amount {
-            value: ledger.quantities[i],
-        });
-        output::value(ledger.averages[i] as u64);
-        output::amount(Amount {
-            value: ledger.realized[i],
-        });
+        output::amount(
+            rt,
+            Amount {
+                value: ledger.quantities[i],
+            },
+        );
+        output::value(rt, ledger.averages[i] as u64);
+        output::amount(
+            rt,
+            Amount {
+                value: ledger.realized[i],
+            },
+        );
     }
 }
 
@@ -39,14 +45,14 @@ fn fill(line: &[u8]) -> Fill {
 }
 
 // A fill that is taken shows the position that it makes, and the cash.
-fn filled(ledger: PositionLedger, line: &[u8]) -> PositionLedger {
+fn filled(rt: &impl Print, ledger: PositionLedger, line: &[u8]) -> PositionLedger {
     let booked = ledger.apply_fill(fill(line));
     let outcome = booked.outcome;
-    let next = changed(booked);
+    let next = changed(rt, booked);
     if let Outcome::Done = outcome {
         let cash = next.cash;
-        position(next, small(line, 1));
-        output::amount(cash);
+        position(rt, next, small(line, 1));
+        output::amount(rt, cash);
     }
     next
 }
@@ -57,7 +63,7 @@ fn fill_after(line: &[u8], index: usize) -> Fill {
 }
 
 // Four fills in one call, over a lent list: how many were taken, and the cash.
-fn book_four(ledger: PositionLedger, line: &[u8]) -> PositionLedger {
+fn book_four(rt: &impl Print, ledger: PositionLedger, line: &[u8]) -> PositionLedger {
     let day = day::apply_four(
         ledger,
         [
@@ -70,23 +76,26 @@ fn book_four(ledger: PositionLedger, line: &[u8]) -> PositionLedger {
     let outcome = day.outcome;
     let next = day.ledger;
     let cash = next.cash;
-    output::told(Told::of_outcome(outcome));
-    output::value(day.taken);
-    output::amount(cash);
+    output::told(rt, Told::of_outcome(outcome));
+    output::value(rt, day.taken);
+    output::amount(rt, cash);
     next
 }
 
-fn worth(ledger: PositionLedger, prices: &[u32], line: &[u8]) {
-    output::told(match number(line, 1) {
-        0 => Told::of_amount(valuation::unrealized_pnl_total(ledger, prices)),
-        1 => Told::of_amount(valuation::net_liquidation_value(ledger, prices)),
-        2 => Told::of_amount(valuation::net_market_exposure(ledger, prices)),
-        _ => Told::of_flag(valuation::delta_neutral_check(ledger, prices)),
-    });
+fn worth(rt: &impl Print, ledger: PositionLedger, prices: &[u32], line: &[u8]) {
+    output::told(
+        rt,
+        match number(line, 1) {
+            0 => Told::of_amount(valuation::unrealized_pnl_total(ledger, prices)),
+            1 => Told::of_amount(valuation::net_liquidation_value(ledger, prices)),
+            2 => Told::of_amount(valuation::net_market_exposure(ledger, prices)),
+            _ => Told::of_flag(valuation::delta_neutral_check(ledger, prices)),
+        },
+    );
 }
 
 // The record with another position of a symbol, which may be no ledger.
-fn with_position(mut ledger: PositionLedger, line: &[u8]) -> PositionLedger {
+fn with_position(rt: &impl Print, mut ledger: PositionLedger, line: &[u8]) -> PositionLedger {
     let i = small(line, 1) as usize;
     if i < SYMBOLS {
         let lots = amount(line, 2, 3).value;
@@ -94,50 +103,59 @@ fn with_position(mut ledger: PositionLedger, line: &[u8]) -> PositionLedger {
         ledger.quantities[i] = lots;
         ledger.averages[i] = small(line, 4);
         ledger.realized[i] = profit;
-        output::number(0);
+        output::number(rt, 0);
     } else {
-        output::put(b"?");
+        output::put(rt, b"?");
     }
     ledger
 }
 
 // Cash, commission paid, and the position of a symbol, as they stand in the record.
-fn shown(ledger: PositionLedger, symbol: u32) {
+fn shown(rt: &impl Print, ledger: PositionLedger, symbol: u32) {
     let cash = ledger.cash;
     let commission = ledger.commission;
-    output::number(0);
-    output::amount(cash);
-    output::amount(commission);
-    position(ledger, symbol);
+    output::number(rt, 0);
+    output::amount(rt, cash);
+    output::amount(rt, commission);
+    position(rt, ledger, symbol);
 }
 
-pub fn step(ledger: PositionLedger, prices: [u32; 32], kind: u64, line: &[u8]) -> PositionLedger {
+pub fn step(
+    rt: &impl Print,
+    ledger: PositionLedger,
+    prices: [u32; 32],
+    kind: u64,
+    line: &[u8],
+) -> PositionLedger {
     match kind {
-        6 => return changed(PositionLedger::new(amount(line, 1, 2))),
-        7 => return filled(ledger, line),
-        8 => return changed(ledger.deposit(amount(line, 1, 2))),
-        9 => output::told(Told::of_amount(valuation::checked_unrealized_pnl(
-            ledger,
-            small(line, 1),
-            small(line, 2),
-        ))),
-        11 => worth(ledger, &prices, line),
-        19 => return with_position(ledger, line),
-        20 => shown(ledger, small(line, 1)),
-        28 => return book_four(ledger, line),
-        _ => output::put(b"?"),
+        6 => return changed(rt, PositionLedger::new(amount(line, 1, 2))),
+        7 => return filled(rt, ledger, line),
+        8 => return changed(rt, ledger.deposit(amount(line, 1, 2))),
+        9 => output::told(
+            rt,
+            Told::of_amount(valuation::checked_unrealized_pnl(
+                ledger,
+                small(line, 1),
+                small(line, 2),
+            )),
+        ),
+        11 => worth(rt, ledger, &prices, line),
+        19 => return with_position(rt, ledger, line),
+        20 => shown(rt, ledger, small(line, 1)),
+        28 => return book_four(rt, ledger, line),
+        _ => output::put(rt, b"?"),
     }
     ledger
 }
 
 // The prices with another one of a symbol.
-pub fn price(mut prices: [u32; 32], line: &[u8]) -> [u32; 32] {
+pub fn price(rt: &impl Print, mut prices: [u32; 32], line: &[u8]) -> [u32; 32] {
     let symbol = small(line, 1) as usize;
     if symbol < SYMBOLS {
         prices[symbol] = small(line, 2);
-        output::number(0);
+        output::number(rt, 0);
     } else {
-        output::put(b"?");
+        output::put(rt, b"?");
     }
     prices
 }

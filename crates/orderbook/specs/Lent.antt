@@ -14,14 +14,10 @@ book_at bp bq ap aq c = record { bids = rows bp bq c.bids; asks = rows ap aq c.a
 abbrev pub counts_in : OrderBook → Counts
 counts_in b = record { bids = b.bids.count; asks = b.asks.count; sequence = b.sequence }
 
--- a row that is lent to a call: as it was lent, and as the call returns
+-- a row that is lent to a call to be read
 abbrev pub Row : Type 0
 Row = Both (Bor (List ℕ)) (Bor (List ℕ))
 
--- the book that the rows make as they are lent, with these counts
+-- the book that rows lent to be read make, with these counts
 abbrev pub lent_book : Row → Row → Row → Row → Counts → OrderBook
 lent_book bp bq ap aq c = book_at bp.entry.now bq.entry.now ap.entry.now aq.entry.now c
-
--- the book that they make as the call returns, with these counts
-abbrev pub left_book : Row → Row → Row → Row → Counts → OrderBook
-left_book bp bq ap aq c = book_at bp.exit.now bq.exit.now ap.exit.now aq.exit.now c

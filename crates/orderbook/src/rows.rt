@@ -6,7 +6,7 @@ ghost use Rattle.types.specs.declared.Outcome.TheVariants.{Done};
 ghost use Rattle.deltas.specs.Inner.Admitting.{Admission};
 ghost use Rattle.orderbook.specs.Book.{of_side, is_book};
 ghost use Rattle.orderbook.specs.Apply.{applied, cleared, side_cleared};
-ghost use Rattle.orderbook.specs.Lent.{book_at, lent_book, left_book};
+ghost use Rattle.orderbook.specs.Lent.{book_at, lent_book};
 ghost use Rattle.orderbook.specs.Inner.Long.{Long};
 
 use deltas::{BookDelta, Counts, RowsApplied};
@@ -61,7 +61,7 @@ pub fn apply_to_book(
     delta: BookDelta,
 ) -> RowsApplied
     requires { (is_book (book_at bp.old bq.old ap.old aq.old counts) ≡ true) × Long (book_at bp.old bq.old ap.old aq.old counts) × Admission Done counts.sequence delta }
-    ensures { record { book = left_book bp bq ap aq result.counts; reply = reply_of_outcome result.outcome } ≡ applied (lent_book bp bq ap aq counts) delta }
+    ensures { record { book = book_at bp.new bq.new ap.new aq.new result.counts; reply = reply_of_outcome result.outcome } ≡ applied (book_at bp.old bq.old ap.old aq.old counts) delta }
 {
     let side = delta.side;
     match side {
@@ -85,7 +85,7 @@ pub fn apply_delta(
     counts: Counts,
     delta: BookDelta,
 ) -> RowsApplied
-    ensures { record { book = left_book bp bq ap aq result.counts; reply = reply_of_outcome result.outcome } ≡ applied (lent_book bp bq ap aq counts) delta }
+    ensures { record { book = book_at bp.new bq.new ap.new aq.new result.counts; reply = reply_of_outcome result.outcome } ≡ applied (book_at bp.old bq.old ap.old aq.old counts) delta }
 {
     if !is_book(bp, bq, ap, aq, counts) {
         return RowsApplied {
@@ -108,7 +108,7 @@ pub fn clear(
     aq: &mut [u32; 128],
     counts: Counts,
 ) -> RowsApplied
-    ensures { record { book = left_book bp bq ap aq result.counts; reply = reply_of_outcome result.outcome } ≡ cleared (lent_book bp bq ap aq counts) }
+    ensures { record { book = book_at bp.new bq.new ap.new aq.new result.counts; reply = reply_of_outcome result.outcome } ≡ cleared (book_at bp.old bq.old ap.old aq.old counts) }
 {
     if !is_book(bp, bq, ap, aq, counts) {
         return RowsApplied {
@@ -139,7 +139,7 @@ pub fn remove_all(
     counts: Counts,
     side: Side,
 ) -> RowsApplied
-    ensures { record { book = left_book bp bq ap aq result.counts; reply = reply_of_outcome result.outcome } ≡ side_cleared side (lent_book bp bq ap aq counts) }
+    ensures { record { book = book_at bp.new bq.new ap.new aq.new result.counts; reply = reply_of_outcome result.outcome } ≡ side_cleared side (book_at bp.old bq.old ap.old aq.old counts) }
 {
     if !is_book(bp, bq, ap, aq, counts) {
         return RowsApplied {

@@ -3,107 +3,107 @@
 #![tactic(auto)]
 
 use amount::Amount;
-use libc::STDOUT_FILENO;
 use questions::Answer;
 use quotient::Quotient;
 use told::{Told, Whole};
 
-pub fn put(text: &[u8]) {
-    io::write_all(STDOUT_FILENO, text);
+// What cannot be written is left out.
+pub fn put(rt: &impl Print, text: &[u8]) {
+    let _ = rt.write_all(text);
 }
 
-pub fn number(n: u64) {
-    io::print_decimal(STDOUT_FILENO, n);
+pub fn number(rt: &impl Print, n: u64) {
+    let _ = rt.print(n);
 }
 
-pub fn value(n: u64) {
-    put(b" ");
-    number(n);
+pub fn value(rt: &impl Print, n: u64) {
+    put(rt, b" ");
+    number(rt, n);
 }
 
-fn signed(negative: bool, size: u64) {
+fn signed(rt: &impl Print, negative: bool, size: u64) {
     if negative {
-        put(b" -");
+        put(rt, b" -");
     } else {
-        put(b" ");
+        put(rt, b" ");
     }
-    number(size);
+    number(rt, size);
 }
 
-pub fn amount(a: Amount) {
-    signed(a.is_negative(), a.size());
+pub fn amount(rt: &impl Print, a: Amount) {
+    signed(rt, a.is_negative(), a.size());
 }
 
 // A value, if the answer carries it.
-fn carried(is: bool, w: Whole) {
+fn carried(rt: &impl Print, is: bool, w: Whole) {
     if is {
-        signed(w.negative, w.size);
+        signed(rt, w.negative, w.size);
     }
 }
 
-pub fn told(t: Told) {
+pub fn told(rt: &impl Print, t: Told) {
     let first = t.first;
     let second = t.second;
     let third = t.third;
     let fourth = t.fourth;
     let count = t.count;
-    number(t.number);
-    carried(count > 0, first);
-    carried(count > 1, second);
-    carried(count > 2, third);
-    carried(count > 3, fourth);
+    number(rt, t.number);
+    carried(rt, count > 0, first);
+    carried(rt, count > 1, second);
+    carried(rt, count > 2, third);
+    carried(rt, count > 3, fourth);
 }
 
 // The last six digits of a number.
-fn six_digits(n: u64) {
+fn six_digits(rt: &impl Print, n: u64) {
     let mut scale: u64 = 100_000;
     while scale > 0 {
-        number(n / scale % 10);
+        number(rt, n / scale % 10);
         scale /= 10;
     }
 }
 
 // A number of 6 places; one that shows as zero has no sign.
-fn places(negative: bool, units: u64, millionths: u64) {
-    signed(negative && (units > 0 || millionths > 0), units);
-    put(b".");
-    six_digits(millionths);
+fn places(rt: &impl Print, negative: bool, units: u64, millionths: u64) {
+    signed(rt, negative && (units > 0 || millionths > 0), units);
+    put(rt, b".");
+    six_digits(rt, millionths);
 }
 
 // A quotient cut to 6 places. No quotient of a book has a denominator that is too large for them.
-fn cut(q: Quotient) {
+fn cut(rt: &impl Print, q: Quotient) {
     let numerator = q.numerator;
     let size = numerator.size();
     let d = q.denominator;
     if d > 0 {
         let rest = size % d;
         if rest <= u64::MAX / 1_000_000 {
-            places(numerator.is_negative(), size / d, rest * 1_000_000 / d);
+            places(rt, numerator.is_negative(), size / d, rest * 1_000_000 / d);
             return;
         }
     }
-    put(b" ?");
+    put(rt, b" ?");
 }
 
 // An answer whose quotient is cut to 6 places.
-pub fn answer_cut(a: Answer) {
+pub fn answer_cut(rt: &impl Print, a: Answer) {
     let Answer::Ratio(q) = a else {
-        told(a.told());
+        told(rt, a.told());
         return;
     };
-    number(0);
-    cut(q);
+    number(rt, 0);
+    cut(rt, q);
 }
 
 // An answer whose quotient is shown as what over what.
-pub fn answer_exact(a: Answer) {
+pub fn answer_exact(rt: &impl Print, a: Answer) {
     let Answer::Ratio(q) = a else {
-        told(a.told());
+        told(rt, a.told());
         return;
     };
     let numerator = q.numerator;
-    number(0);
-    amount(numerator);
-    put(b" over");
-    value(q.denominator);
+    number(rt, 0);
+    amount(rt, numerator);
+    put(rt, b" over");
+    value(rt, q.denominator);
 }

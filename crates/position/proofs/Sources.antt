@@ -8,7 +8,7 @@ use Rattle.holding.specs.declared.Position.{Position}
 use Rattle.holding.proofs.Holdings.{fill_in}
 use Rattle.holding.proofs.Sources.{source_is_ours}
 use Rattle.position.specs.Ledger.{position_at, is_ledger, filled_with, filled, booked_all}
-use Rattle.position.specs.Source.{SourceRun, no_fill_lem, one-fill, RunIsOurs}
+use Rattle.position.specs.Source.{SourceRun, no-fill, one-fill, RunIsOurs}
 use Rattle.position.specs.declared.PositionLedger.{PositionLedger}
 use Rattle.position.proofs.Ledgers.{ledger_in}
 use Rattle.position.proofs.Kept.{fill_done}
@@ -18,7 +18,7 @@ unfolding booked_all filled
 run_is_ours l m fs h r = each h r
   where
     each : {l m : PositionLedger} {fs : List Fill} → is_ledger l ≡ true → SourceRun l fs m → m ≡ booked_all l fs
-    each h no_fill_lem = refl
+    each h no-fill = refl
     each h (one-fill l m f fs q e s r) =
         let t = fill_done l f e in
         let k : q ≡ position_after (position_at l f.symbol) f = source_is_ours (position_at l f.symbol) f q ((ledger_in l h).rows.each f.symbol (fill_in f t.2).symbol_in) s in

@@ -14,14 +14,10 @@ ledger_at quantities averages realized t =
 abbrev pub totals_in : PositionLedger → Totals
 totals_in l = record { cash = l.cash; commission = l.commission }
 
--- a row that is lent to a call, of numbers with a sign or without: as it was lent, and as the call returns
+-- a row that is lent to a call to be read, of numbers with a sign or without
 abbrev pub Row : Type 0 → Type 0
 Row A = Both (Bor (List A)) (Bor (List A))
 
--- the ledger that the rows make as they are lent, with these totals
+-- the ledger that rows lent to be read make, with these totals
 abbrev pub lent_ledger : Row ℤ → Row ℕ → Row ℤ → Totals → PositionLedger
 lent_ledger quantities averages realized t = ledger_at quantities.entry.now averages.entry.now realized.entry.now t
-
--- the ledger that they make as the call returns, with these totals
-abbrev pub left_ledger : Row ℤ → Row ℕ → Row ℤ → Totals → PositionLedger
-left_ledger quantities averages realized t = ledger_at quantities.exit.now averages.exit.now realized.exit.now t

@@ -9,7 +9,7 @@ use Rattle.position.specs.declared.PositionLedger.{PositionLedger}
 
 -- over fills that are done, no small turnover among them, each average coming out whole, from the same ledger
 pub data SourceRun : PositionLedger → List Fill → PositionLedger → Type 0 where
-  no_fill_lem : {l : PositionLedger} → SourceRun l [] l
+  no-fill : {l : PositionLedger} → SourceRun l [] l
   one-fill : (l m : PositionLedger) (f : Fill) (fs : List Fill) (q : Position) → (booked l f).reply ≡ done tt → SourceAfter (position_at l f.symbol) f q
       → SourceRun (filled_with l f q) fs m
       → SourceRun l (f ∷ fs) m

@@ -4,7 +4,7 @@ ghost use Rattle.std.specs.Prelude.{◌≡◌, true};
 ghost use Rattle.types.specs.Answers.{reply_of_outcome};
 ghost use Rattle.holding.specs.Inner.Sizes.{FillIn};
 ghost use Rattle.position.specs.Ledger.{is_ledger, is_short, is_bearable, settled, booked, deposited};
-ghost use Rattle.position.specs.Lent.{ledger_at, lent_ledger, left_ledger};
+ghost use Rattle.position.specs.Lent.{ledger_at, lent_ledger};
 
 use crate::{RowsBooked, Totals};
 use amount::Amount;
@@ -66,7 +66,7 @@ fn settle(
     fill: Fill,
 ) -> RowsBooked
     requires { (is_ledger (ledger_at quantities.old averages.old realized.old totals) ≡ true) × FillIn fill }
-    ensures { record { ledger = left_ledger quantities averages realized result.totals; reply = reply_of_outcome result.outcome } ≡ settled (lent_ledger quantities averages realized totals) fill }
+    ensures { record { ledger = ledger_at quantities.new averages.new realized.new result.totals; reply = reply_of_outcome result.outcome } ≡ settled (ledger_at quantities.old averages.old realized.old totals) fill }
 {
     let side = fill.side;
     let have = totals.cash;
@@ -105,7 +105,7 @@ pub fn apply_to_ledger(
     fill: Fill,
 ) -> RowsBooked
     requires { is_ledger (ledger_at quantities.old averages.old realized.old totals) ≡ true }
-    ensures { record { ledger = left_ledger quantities averages realized result.totals; reply = reply_of_outcome result.outcome } ≡ booked (lent_ledger quantities averages realized totals) fill }
+    ensures { record { ledger = ledger_at quantities.new averages.new realized.new result.totals; reply = reply_of_outcome result.outcome } ≡ booked (ledger_at quantities.old averages.old realized.old totals) fill }
 {
     if fill.is_fill() {
         return settle(quantities, averages, realized, totals, fill);
@@ -124,7 +124,7 @@ pub fn apply_fill(
     totals: Totals,
     fill: Fill,
 ) -> RowsBooked
-    ensures { record { ledger = left_ledger quantities averages realized result.totals; reply = reply_of_outcome result.outcome } ≡ booked (lent_ledger quantities averages realized totals) fill }
+    ensures { record { ledger = ledger_at quantities.new averages.new realized.new result.totals; reply = reply_of_outcome result.outcome } ≡ booked (ledger_at quantities.old averages.old realized.old totals) fill }
 {
     if is_ledger(quantities, averages, realized, totals) {
         return apply_to_ledger(quantities, averages, realized, totals, fill);

@@ -12,7 +12,7 @@ use Rattle.types.specs.declared.Refusal.{Refusal}
 use Rattle.types.specs.declared.Refusal.TheVariants as R
 use Rattle.told.specs.Numbers.{tell, nothing}
 use Rattle.receiver.specs.Turns.{Turn}
-use Rattle.decimals.specs.Decimals.{decimal, pair, Puts}
+use Rattle.decimals.specs.Decimals.{pair, Puts}
 use Rattle.decimals.proofs.Digits.{decimal-short, two_digits, pair-length}
 use Rattle.printing.specs.Printed.{next, answer_number, outcome_line}
 

@@ -1,15 +1,14 @@
 -- A run through the lines of a text: what is heard and printed of the lines that are left, after those that were taken, is what is of all.
-use Prim.Native.Nat.{ℕ, suc, ◌+◌, ◌-◌, ◌*◌, ◌≤◌, ◌<◌}
-use mathlib.Core.Path.{◌≡◌, refl, sym, ap, ◌∙◌}
-use mathlib.Core.List.{List, [], ◌∷◌, ◌++◌}
+use Prim.Native.Nat.{ℕ, ◌+◌, ◌-◌, ◌*◌, ◌≤◌, ◌<◌}
+use mathlib.Core.Path.{◌≡◌, refl, sym, ◌∙◌}
+use mathlib.Core.List.{List, [], ◌∷◌}
 use native.Mathlib.Omega.{arith}
-use native.Mathlib.Nat.{add-zero}
-use lib.ListN.{length, take, drop, length-append, length-drop, drop_of_length-le}
+use lib.ListN.{length, take, drop, length-drop, drop_of_length-le}
 use Rattle.decimals.specs.Decimals.{Puts}
 use Rattle.decimals.proofs.Puts.{kept, Owed, owed_start, owed-put, owed_end}
 use Rattle.streams.specs.Streams.{lines, line_end}
 use Rattle.receiver.specs.declared.Receiver.{Receiver}
-use Rattle.receiver.specs.Turns.{Turn, taken, turns, heard}
+use Rattle.receiver.specs.Turns.{taken, turns, heard}
 use Rattle.printing.specs.Printed.{next, outcome_line, printed, counted}
 use Rattle.printing.proofs.Places.{line_there}
 

@@ -1,10 +1,10 @@
 -- Laws of the end state's text: level by level, and how long it is at most.
-use Prim.Native.Nat.{ℕ, zero, suc, ◌+◌, ◌*◌, ◌≤◌, ◌<◌}
-use mathlib.Core.Bool.{true, false, cond}
-use mathlib.Core.Path.{◌≡◌, refl, sym, ap, ◌∙◌}
+use Prim.Native.Nat.{ℕ, ◌+◌, ◌*◌, ◌≤◌, ◌<◌}
+use mathlib.Core.Bool.{cond}
+use mathlib.Core.Path.{◌≡◌, refl, sym}
 use mathlib.Core.List.{List, [], ◌∷◌, ◌++◌, append_assoc}
 use native.Mathlib.Omega.{arith}
-use borrow.Author.Tests.{leb-true, leb-false}
+use borrow.Author.Tests.{leb-false}
 use lib.Dec.{leb}
 use lib.ListN.{length, get_or, take, drop, length-append, length-take, drop_of_length-le}
 use lib.Seq.{take_all}
@@ -12,7 +12,7 @@ use Rattle.types.specs.declared.PriceLevel.{PriceLevel}
 use Rattle.types.proofs.Booleans.{by}
 use Rattle.levels.specs.declared.Levels.{Levels}
 use Rattle.levels.specs.Table.{paired, levels, rows}
-use Rattle.levels.proofs.Tables.{Sized, levels-length, levels_cons}
+use Rattle.levels.proofs.Tables.{levels-length, levels_cons}
 use Rattle.orderbook.specs.declared.OrderBook.{OrderBook}
 use Rattle.orderbook.specs.Inner.Long.{Long}
 use Rattle.decimals.specs.Decimals.{decimal, pair, Puts}

@@ -1,12 +1,11 @@
 -- The four lines of examples/four.feed, as they are printed; and the texts of the two end states.
-use Rattle.std.specs.Prelude.{ℕ, ◌≡◌, refl, List, [], ◌∷◌, map}
+use Rattle.std.specs.Prelude.{◌≡◌, refl, [], ◌∷◌, map}
 use Rattle.types.specs.Replies.{Reply, done, refused}
 use Rattle.levels.specs.Table.{level, table}
 use Rattle.orderbook.specs.declared.OrderBook.{OrderBook}
-use Rattle.orderbook.specs.Book.{empty_book}
 use Rattle.decimals.specs.Decimals.{last_digits, pair}
-use Rattle.receiver.specs.declared.State.TheVariants.{Waiting, Live}
-use Rattle.receiver.specs.Turns.{Turn, start, stays}
+use Rattle.receiver.specs.declared.State.TheVariants.{Live}
+use Rattle.receiver.specs.Turns.{Turn, start}
 use Rattle.printing.specs.Printed.{printed, side_text, head_text, sides_text, end_text}
 
 -- a turn with this answer

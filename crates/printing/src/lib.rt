@@ -7,7 +7,7 @@ ghost use Rattle.types.specs.Answers.{reply_of_outcome};
 ghost use Rattle.decimals.specs.Decimals.{Puts};
 ghost use Rattle.streams.specs.Streams.{lines, line_end};
 ghost use Rattle.receiver.specs.Turns.{taken, turns, heard as heardOf};
-ghost use Rattle.receiver.specs.Lent.{lent_receiver, left_receiver};
+ghost use Rattle.receiver.specs.Lent.{receiver_at};
 ghost use Rattle.printing.specs.Printed.{next as next_of, answer_number, outcome_line, printed, counted};
 
 pub mod ends; // ends.rt: the end state
@@ -63,9 +63,9 @@ fn take_one(
     out: &mut [u8],
 ) -> Heard
     requires { heard.used + 24 ≤ length out.old }
-    ensures counts_value { left_receiver bp bq ap aq result.state result.counts ≡ (taken (lent_receiver bp bq ap aq heard.state heard.counts) line.now).receiver }
+    ensures counts_value { receiver_at bp.new bq.new ap.new aq.new result.state result.counts ≡ (taken (receiver_at bp.old bq.old ap.old aq.old heard.state heard.counts) line.now).receiver }
     ensures number_value { result.number ≡ next_of heard.number }
-    ensures puts { Puts (outcome_line (next_of heard.number) (taken (lent_receiver bp bq ap aq heard.state heard.counts) line.now)) heard.used out.old out.new result.used }
+    ensures puts { Puts (outcome_line (next_of heard.number) (taken (receiver_at bp.old bq.old ap.old aq.old heard.state heard.counts) line.now)) heard.used out.old out.new result.used }
     ensures used_bound { result.used ≤ heard.used + 24 }
 {
     let state = heard.state;
@@ -94,9 +94,9 @@ pub fn take_lines(
     out: &mut [u8],
 ) -> Heard
     requires { heard.used + 24 * length text.now ≤ length out.old }
-    ensures counts_value { left_receiver bp bq ap aq result.state result.counts ≡ heardOf (lent_receiver bp bq ap aq heard.state heard.counts) (lines text.now) }
-    ensures number_value { result.number ≡ counted heard.number (turns (lent_receiver bp bq ap aq heard.state heard.counts) (lines text.now)) }
-    ensures puts { Puts (printed heard.number (turns (lent_receiver bp bq ap aq heard.state heard.counts) (lines text.now))) heard.used out.old out.new result.used }
+    ensures counts_value { receiver_at bp.new bq.new ap.new aq.new result.state result.counts ≡ heardOf (receiver_at bp.old bq.old ap.old aq.old heard.state heard.counts) (lines text.now) }
+    ensures number_value { result.number ≡ counted heard.number (turns (receiver_at bp.old bq.old ap.old aq.old heard.state heard.counts) (lines text.now)) }
+    ensures puts { Puts (printed heard.number (turns (receiver_at bp.old bq.old ap.old aq.old heard.state heard.counts) (lines text.now))) heard.used out.old out.new result.used }
 {
     let mut now = heard;
     let mut at = 0;

@@ -7,11 +7,11 @@ ghost use Rattle.deltas.specs.Delta.{delta_fits};
 ghost use Rattle.deltas.specs.Inner.Admitting.{Admission};
 ghost use Rattle.orderbook.specs.Book.{is_book};
 ghost use Rattle.orderbook.specs.Apply.{change_of};
-ghost use Rattle.orderbook.specs.Lent.{book_at, left_book};
+ghost use Rattle.orderbook.specs.Lent.{book_at};
 ghost use Rattle.orderbook.specs.Inner.Long.{Long};
 ghost use Rattle.receiver.specs.declared.State.TheVariants.{Live};
 ghost use Rattle.receiver.specs.Turns.{loads, delta_turn, taken};
-ghost use Rattle.receiver.specs.Lent.{lent_receiver, left_receiver};
+ghost use Rattle.receiver.specs.Lent.{receiver_at};
 ghost use Rattle.receiver.specs.Inner.Others.{other_turn, next_by};
 
 use crate::State;
@@ -47,7 +47,7 @@ fn load(
     aq: &mut [u32; 128],
     book: OrderBook,
 ) -> Counts
-    ensures { left_book bp bq ap aq result ≡ book }
+    ensures { book_at bp.new bq.new ap.new aq.new result ≡ book }
 {
     let bid_prices = book.bids.prices;
     let bid_quantities = book.bids.quantities;
@@ -74,7 +74,7 @@ fn take_other(
     counts: Counts,
     read: Applied,
 ) -> Turned
-    ensures { record { receiver = left_receiver bp bq ap aq result.state result.counts; reply = reply_of_outcome result.outcome } ≡ other_turn (lent_receiver bp bq ap aq state counts) (change_of read) }
+    ensures { record { receiver = receiver_at bp.new bq.new ap.new aq.new result.state result.counts; reply = reply_of_outcome result.outcome } ≡ other_turn (receiver_at bp.old bq.old ap.old aq.old state counts) (change_of read) }
 {
     let outcome = read.outcome;
     let Outcome::Done = outcome else {
@@ -110,7 +110,7 @@ fn take_next(
     delta: BookDelta,
 ) -> Turned
     requires { (is_book (book_at bp.old bq.old ap.old aq.old counts) ≡ true) × Long (book_at bp.old bq.old ap.old aq.old counts) × Admission Done counts.sequence delta }
-    ensures { record { receiver = left_receiver bp bq ap aq result.state result.counts; reply = reply_of_outcome result.outcome } ≡ next_by (lent_receiver bp bq ap aq Live counts) delta }
+    ensures { record { receiver = receiver_at bp.new bq.new ap.new aq.new result.state result.counts; reply = reply_of_outcome result.outcome } ≡ next_by (receiver_at bp.old bq.old ap.old aq.old Live counts) delta }
 {
     let next = rows::apply_to_book(bp, bq, ap, aq, counts, delta);
     let outcome = next.outcome;
@@ -140,7 +140,7 @@ fn take_delta(
     delta: BookDelta,
 ) -> Turned
     requires { (is_book (book_at bp.old bq.old ap.old aq.old counts) ≡ true) × Long (book_at bp.old bq.old ap.old aq.old counts) × (delta_fits delta.action delta.price delta.quantity ≡ true) }
-    ensures { record { receiver = left_receiver bp bq ap aq result.state result.counts; reply = reply_of_outcome result.outcome } ≡ delta_turn state (lent_receiver bp bq ap aq state counts) delta }
+    ensures { record { receiver = receiver_at bp.new bq.new ap.new aq.new result.state result.counts; reply = reply_of_outcome result.outcome } ≡ delta_turn state (receiver_at bp.old bq.old ap.old aq.old state counts) delta }
 {
     let State::Live = state else {
         return Turned {
@@ -176,7 +176,7 @@ pub fn take_line(
     counts: Counts,
     line: &[u8],
 ) -> Turned
-    ensures { record { receiver = left_receiver bp bq ap aq result.state result.counts; reply = reply_of_outcome result.outcome } ≡ taken (lent_receiver bp bq ap aq state counts) line.now }
+    ensures { record { receiver = receiver_at bp.new bq.new ap.new aq.new result.state result.counts; reply = reply_of_outcome result.outcome } ≡ taken (receiver_at bp.old bq.old ap.old aq.old state counts) line.now }
 {
     if !rows::is_book(bp, bq, ap, aq, counts) {
         return Turned {

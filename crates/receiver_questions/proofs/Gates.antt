@@ -1,59 +1,46 @@
--- What a shut gate lets through, and the cases that a match leaves to its last arm, by their tags.
-use Prim.Native.Nat.{ℕ}
+-- What a shut gate lets through, and the cases that a match leaves to its last arm.
 use mathlib.Core.Bool.{false, cond}
 use mathlib.Core.Path.{◌≡◌, refl}
-use mathlib.Core.List.{List, [], ◌∷◌}
 use lib.Dec.{leb}
-use types.Run.{OneOf, miss}
-use denote.Enum.Declared.{tag_of}
 use Rattle.types.specs.Replies.{Reply, number_of, refuse}
 use Rattle.types.specs.declared.Refusal.{Refusal}
 use Rattle.types.specs.declared.Refusal.TheVariants as R
-use Rattle.types.specs.contracts.Refusal as RT
 use Rattle.types.proofs.Booleans.{by}
 use Rattle.questions.specs.declared.Answer.{Answer}
 use Rattle.questions.specs.declared.Answer.TheVariants as A
-use Rattle.questions.specs.contracts.Answer as AT
 use Rattle.questions.specs.Asked.{Value, reply_of}
 use Rattle.receiver_questions.specs.Gate.{shut}
 
--- the tags of the answers with a value, and those of the refusals after 2
-abbrev values : List ℕ
-values = 0 ∷ 1 ∷ 2 ∷ 3 ∷ 4 ∷ []
-
-abbrev others : List ℕ
-others = 2 ∷ 3 ∷ 4 ∷ 5 ∷ 6 ∷ 7 ∷ 8 ∷ 9 ∷ 10 ∷ 11 ∷ 12 ∷ 13 ∷ 14 ∷ 15 ∷ 16 ∷ []
-
 -- no value passes
-pub valued : (own : Reply Value) (a : Answer) → OneOf values (tag_of AT.the_type a) → own ≡ shut own (reply_of a)
+pub valued : (own : Reply Value) (a : Answer) → ((r : Refusal) → a ≡ A.Refused r → ⊥) → own ≡ shut own (reply_of a)
 unfolding shut
 valued own (A.Number x) h = refl
 valued own (A.Flag x) h = refl
 valued own (A.Level x) h = refl
 valued own (A.Quote x) h = refl
 valued own (A.Ratio x) h = refl
-valued own (A.Refused r) h = absurd (miss values 5 tt h)
+valued own (A.Refused r) h = absurd (h r refl)
 
 -- nor a refusal after 2
-pub later : (r : Refusal) → OneOf others (tag_of RT.the_type r) → leb (number_of r) 2 ≡ false
+pub later : (r : Refusal) → (r ≡ R.NotARecord → ⊥) → (r ≡ R.OutOfLimits → ⊥) → leb (number_of r) 2 ≡ false
 later = elim [
-  | R.NotARecord ↦ λ h. absurd (miss others 0 tt h)
-  | R.OutOfLimits ↦ λ h. absurd (miss others 1 tt h)
-  | R.LastSequence ↦ λ h. refl
-  | R.SequenceMismatch expected got ↦ λ h. refl
-  | R.InvertedSpread bid ask ↦ λ h. refl
-  | R.FullSide ↦ λ h. refl
-  | R.InsufficientLiquidity target ↦ λ h. refl
-  | R.InsufficientFunds need have ↦ λ h. refl
-  | R.PastLimit ↦ λ h. refl
-  | R.NoValue ↦ λ h. refl
-  | R.NoRoom ↦ λ h. refl
-  | R.DamagedLine ↦ λ h. refl
-  | R.Unpriced symbol ↦ λ h. refl
-  | R.OldFrame ↦ λ h. refl
-  | R.Gap ↦ λ h. refl
-  | R.Waiting ↦ λ h. refl
-  | R.RefusedDelta ↦ λ h. refl
+  | R.NotARecord ↦ λ h k. absurd (h refl)
+  | R.OutOfLimits ↦ λ h k. absurd (k refl)
+  | R.LastSequence ↦ λ h k. refl
+  | R.SequenceMismatch expected got ↦ λ h k. refl
+  | R.InvertedSpread bid ask ↦ λ h k. refl
+  | R.FullSide ↦ λ h k. refl
+  | R.InsufficientLiquidity target ↦ λ h k. refl
+  | R.InsufficientFunds need have ↦ λ h k. refl
+  | R.PastLimit ↦ λ h k. refl
+  | R.NoValue ↦ λ h k. refl
+  | R.NoRoom ↦ λ h k. refl
+  | R.DamagedLine ↦ λ h k. refl
+  | R.Unpriced symbol ↦ λ h k. refl
+  | R.OldFrame ↦ λ h k. refl
+  | R.Gap ↦ λ h k. refl
+  | R.Waiting ↦ λ h k. refl
+  | R.RefusedDelta ↦ λ h k. refl
 ]
 
 -- the refusal kept is the one that passes, or the gate's own

@@ -2,6 +2,6 @@
 // to them, both written by oracle/replay, so that the gate holds this library to the original where there is no Rust compiler.
 #![tactic(auto)]
 
-fn main() {
-    replaying::run();
+fn main(rt: HostRuntime) {
+    replaying::run(&rt);
 }

@@ -5,10 +5,10 @@
 ghost use Rattle.std.specs.Prelude.{◌≤◌, length};
 
 use amount::Amount;
-use libc::STDIN_FILENO;
 use orderbook::OrderBook;
 use position::PositionLedger;
 use receiver::Receiver;
+use std::io::Read;
 
 // What the operations work on: a book, one that is kept to go back to, a ledger, the prices of its symbols (0 where there is none), and a
 // receiver.
@@ -34,7 +34,7 @@ fn first() -> State {
 }
 
 // Operations that put one part in another's place.
-fn moved(state: State, kind: u64) -> State {
+fn moved(rt: &impl Print, state: State, kind: u64) -> State {
     let book = state.book;
     let kept = state.kept;
     let shown = state.receiver.book;
@@ -45,12 +45,12 @@ fn moved(state: State, kind: u64) -> State {
         25 => next.receiver = Receiver::new(),
         _ => next.book = shown,
     }
-    output::number(0);
+    output::number(rt, 0);
     next
 }
 
 // Does what a line says, and prints the answer.
-fn done(state: State, line: &[u8]) -> State {
+fn done(rt: &impl Print, state: State, line: &[u8]) -> State {
     let book = state.book;
     let ledger = state.ledger;
     let prices = state.prices;
@@ -58,28 +58,28 @@ fn done(state: State, line: &[u8]) -> State {
     let kind = fields::number(line, 0);
     let mut next = state;
     match kind {
-        0..=5 | 12..=15 | 18 => next.book = on_book::step(book, kind, line),
-        16 | 17 | 25 | 27 => return moved(state, kind),
-        21..=24 => next.book = on_feed::step(book, kind, line),
-        26 => next.receiver = on_feed::take(receiver, line),
+        0..=5 | 12..=15 | 18 => next.book = on_book::step(rt, book, kind, line),
+        16 | 17 | 25 | 27 => return moved(rt, state, kind),
+        21..=24 => next.book = on_feed::step(rt, book, kind, line),
+        26 => next.receiver = on_feed::take(rt, receiver, line),
         10 => {
-            let changed = on_ledger::price(prices, line);
+            let changed = on_ledger::price(rt, prices, line);
             next.prices = changed;
         }
-        _ => next.ledger = on_ledger::step(ledger, prices, kind, line),
+        _ => next.ledger = on_ledger::step(rt, ledger, prices, kind, line),
     }
     next
 }
 
 // Prints a line's label, then does its operation, if it has one.
-fn step(state: State, line: &[u8]) -> State {
+fn step(rt: &impl Print, state: State, line: &[u8]) -> State {
     let from = fields::operation(line);
     let mut next = state;
-    output::put(&line[0..from]);
+    output::put(rt, &line[0..from]);
     if from < line.len() {
-        next = done(state, &line[from..]);
+        next = done(rt, state, &line[from..]);
     }
-    output::put(b"\n");
+    output::put(rt, b"\n");
     next
 }
 
@@ -98,23 +98,38 @@ fn line_end(text: &[u8], at: usize) -> usize
     i
 }
 
-fn replay(text: &[u8]) {
+fn replay(rt: &impl Print, text: &[u8]) {
     let mut state = first();
     let mut at = 0;
     while at < text.len() {
         let end = line_end(text, at);
-        state = step(state, &text[at..end]);
+        state = step(rt, state, &text[at..end]);
         at = end + 1;
     }
 }
 
+// Reads until the buffer is full or the input ends, and answers how many bytes came. A read that fails ends the input.
+fn read_full(input: &mut impl Read, buf: &mut [u8]) -> usize
+    ensures { result ≤ length buf.new }
+{
+    let mut done = 0;
+    while done < buf.len() {
+        let got = input.read(&mut buf[done..]).unwrap_or(0);
+        if got == 0 {
+            break;
+        }
+        done += got;
+    }
+    done
+}
+
 // A list that fills the buffer may have been cut: nothing of it is done.
-pub fn run() {
-    let mut text = io::large_buffer();
-    let n = io::read_full(STDIN_FILENO, &mut text);
+pub fn run(rt: &(impl Input + Print)) {
+    let mut text = [0u8; 65536];
+    let n = read_full(&mut rt.reader(), &mut text);
     if n < text.len() {
-        replay(&text[0..n]);
+        replay(rt, &text[0..n]);
     } else {
-        output::put(b"the list is too long: 65535 bytes are the most\n");
+        output::put(rt, b"the list is too long: 65535 bytes are the most\n");
     }
 }

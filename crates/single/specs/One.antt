@@ -3,7 +3,7 @@
 -- `ensures` in the source: so a promise that left room for two results would be refused there.
 use Rattle.std.specs.Prelude.{ℕ, ◌≡◌, List}
 use Rattle.std.proofs.Common.{sym, ◌∙◌}
-use Rattle.std.specs.Borrow.{Bor}
+use Rattle.std.specs.Borrow.{MutBor}
 
 -- what a call promises, of its lifetimes κs, its arguments a, its result, and its parameters as it returns
 module _ {L : Type 0} {A R S : L → Type 0} (Learnt : (κs : L) → A κs → R κs → S κs → Type 0) where
@@ -21,9 +21,9 @@ one d x y p q = p ∙ sym q
 
 -- The calls that hand back a part of the buffer are the listed exception: a contract cannot say what the buffer behind the part holds as they
 -- return. Any two parts start at one place and hold the same numbers.
-module _ {L : Type 0} {A S : L → Type 0} (Learnt : (κs : L) → A κs → Bor (List ℕ) → S κs → Type 0) where
+module _ {L : Type 0} {A S : L → Type 0} (Learnt : (κs : L) → A κs → MutBor (List ℕ) → S κs → Type 0) where
   abbrev pub OnePart : Type 0
-  OnePart = (κs : L) (a : A κs) (s t : S κs) (x y : Bor (List ℕ)) → Learnt κs a x s → Learnt κs a y t → (x.ref_ptr ≡ y.ref_ptr) × (x.now ≡ y.now)
+  OnePart = (κs : L) (a : A κs) (s t : S κs) (x y : MutBor (List ℕ)) → Learnt κs a x s → Learnt κs a y t → (x.ref_ptr ≡ y.ref_ptr) × (x.now ≡ y.now)
 
 -- where the part starts and what it holds are each given by an equation
 pub one_part : {X Y : Type 0} {d x x' : X} {e y y' : Y} → (x ≡ d) × (y ≡ e) → (x' ≡ d) × (y' ≡ e) → (x ≡ x') × (y ≡ y')

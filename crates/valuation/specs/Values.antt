@@ -1,5 +1,5 @@
 -- What a ledger is worth at given prices: 32 numbers, 0 for a symbol without a price.
-use Rattle.std.specs.Prelude.{ℕ, Bool, false, true, ◌&&◌, cond, List, [], ◌∷◌, ltb, ℤ, pos, nat_abs, ◌+ℤ◌}
+use Rattle.std.specs.Prelude.{ℕ, Bool, false, true, ◌&&◌, cond, List, [], ◌∷◌, ltb, pos, nat_abs, ◌+ℤ◌}
 use Rattle.amount.specs.Whole.{amount}
 use Rattle.amount.specs.declared.Amount.{Amount}
 use Rattle.types.specs.Limits.{symbols, is_price}

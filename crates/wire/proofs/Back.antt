@@ -6,7 +6,7 @@ use native.Mathlib.Omega.{arith}
 use native.Mathlib.Nat.{suc-add, add-zero, zero-add}
 use lib.ListN.{length, get_or, take, drop, length-drop}
 use lib.Seq.{drop-drop}
-use Rattle.wire.specs.Wire.{digit, value, digits_of, be, byte_sum, check_byte, spelt, field}
+use Rattle.wire.specs.Wire.{value, digits_of, be, byte_sum, check_byte, spelt, field}
 use Rattle.wire.specs.Inner.Spelling.{spell, joined}
 use Rattle.wire.proofs.Bytes.{AllBytes, value-digit, spelt-below, sum_append}
 use Rattle.wire.proofs.Spelling.{length-spell}

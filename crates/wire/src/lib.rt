@@ -7,6 +7,7 @@ ghost use Rattle.wire.specs.Wire.{line_feed, digit as digitOf, value as value_of
 ghost use Rattle.wire.specs.Inner.Spelling.{joined, Spelt};
 
 // A letter from 10 on: there the sum with 6 reaches 16, which costs a shift where a division by 10 costs a product.
+#[tactic(auto, unfolding(crate::specs::Wire::digit))]
 fn digit(d: u8) -> u8
     requires { d < 16 }
     ensures { result ≡ digitOf d }
@@ -14,6 +15,7 @@ fn digit(d: u8) -> u8
     48 + d + 7 * ((d + 6) / 16)
 }
 
+#[tactic(auto, unfolding(crate::specs::Wire::value))]
 fn value(c: u8) -> u8
     ensures { result ≡ value_of c }
 {
@@ -38,6 +40,7 @@ pub fn field(line: &[u8], at: usize, k: usize) -> u64
 
 // Reads the bytes that n pairs of digits spell to the front of `out`, and says whether these are the bytes' own digits. The bits in which they differ
 // are laid over each other, with no way out of the loop, so that it takes many digits a turn.
+#[tactic(auto, unfolding(crate::specs::Wire::value))]
 pub fn read_bytes(line: &[u8], n: usize, out: &mut [u8]) -> bool
     requires { (2 * n ≤ length line.now) × (n ≤ length out.old) }
     ensures { Spelt n line.now out.old out.new result }

@@ -1,0 +1,15 @@
+-- `take_some` meets its contract: the bytes that came were taken.
+use Prim.Native.Nat.{◌≤◌}
+use mathlib.Core.Path.{◌≡◌}
+use native.Mathlib.Omega.{arith}
+use borrow.Author.Rules.{rules}
+use lib.ListN.{length, take, length-take}
+use Rattle.day_collecting.proofs.Texts.{took_bytes}
+use Rattle.day_collecting.proofs.take_some.Goals as goal
+
+pub returns-in-Ok : goal.returns-in-Ok
+returns-in-Ok g c =
+    let chunk = c.read.new.buf in
+    let whole : length chunk ≡ length c.args.chunk.now = search rules in
+    let few : length (take c.in-Ok.n chunk) ≤ 65536 = rw length-take (omega (arith, c.requires.2)) in
+    (c.take_bytes.ensures.0, λ g. took_bytes 65536 _ _ _ _ (take c.in-Ok.n chunk) few c.take_bytes.ensures.1)

@@ -1,0 +1,26 @@
+-- `put_positions` meets its contract: each position is put behind those of the symbols before it.
+use Rattle.std.proofs.Common.{arith}
+use Rattle.holding.specs.Rows.{position_of}
+use Rattle.day_printing.proofs.Texts.{no_position, position_room, position-put}
+use Rattle.day_printing.proofs.put_positions.Goals as goal
+
+pub loop-i-init : goal.loop-i-init
+loop-i-init c =
+    let a = c.args in
+    (omega arith, no_position (position_of a.quantities.now a.averages.now a.realized.now) a.at a.out.now (omega (arith, c.requires)))
+
+pub put_held-next-requires : goal.put_held-next-requires
+put_held-next-requires c =
+    let l = c.loop-i in
+    let a = c.args in
+    position_room (position_of a.quantities.now a.averages.now a.realized.now) a.at a.out.now l.i l.next l.out l.invariant.1 (omega arith) c.requires c.at-position.result
+
+pub loop-i-preserved : goal.loop-i-preserved
+loop-i-preserved c =
+    let p = c.at-position in
+    let l = c.loop-i in
+    let a = c.args in
+    let h = c.put_held-next in (
+      omega arith,
+      position-put (position_of a.quantities.now a.averages.now a.realized.now) a.at a.out.now l.i l.next l.out l.invariant.1 p.result p.ensures h.result h.new.out h.ensures,
+    )

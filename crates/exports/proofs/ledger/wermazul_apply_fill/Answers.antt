@@ -1,0 +1,17 @@
+-- `ledger::wermazul_apply_fill` meets its contract: the rows take the fill if its number names a side.
+use mathlib.Core.Path.{ap, ◌∙◌}
+use borrow.Author.Tests.{lt-leb, le-leb}
+use mir.ValLaws.{to_z-of_z}
+use borrow.Author.Rules.{rules}
+use Rattle.exports.specs.Ledgers.{ledger_told, booked_by}
+use Rattle.exports.proofs.ledger.wermazul_apply_fill.Goals as goal
+
+pub returns-then-side-gt1 : goal.returns-then-side-gt1
+unfolding booked_by
+returns-then-side-gt1 c = rw (c.unnamed.ensures, lt-leb _ _ c.if-side-gt1.true)
+
+pub returns : goal.returns
+unfolding booked_by
+returns c = let f = c in
+    rw c.given.ensures
+    (ap ledger_told c.apply_fill.ensures ∙ rw (f.fill_of-fill.ensures, to_z-of_z _ _ f.ranges.commission, le-leb _ _ f.if-side-gt1.false))

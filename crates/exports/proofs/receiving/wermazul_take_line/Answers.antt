@@ -1,0 +1,15 @@
+-- `receiving::wermazul_take_line` meets its contract: a receiver takes the line, and another record stays as it was.
+use mathlib.Core.Path.{ap, ◌∙◌}
+use borrow.Author.Tests.{lt-leb, le-leb}
+use borrow.Author.Rules.{rules}
+use Rattle.exports.specs.Receivers.{held_told, taken_by}
+use Rattle.exports.proofs.receiving.wermazul_take_line.Goals as goal
+
+pub returns-then-state-gt1 : goal.returns-then-state-gt1
+unfolding taken_by
+returns-then-state-gt1 c = rw (c.of_refusal.ensures, lt-leb _ _ c.if-state-gt1.true)
+
+pub returns : goal.returns
+unfolding taken_by
+returns c = let t = c in
+    rw (c.of_outcome.ensures, c.state_number.ensures) (ap held_told t.take_line-turned.ensures ∙ rw (t.state_of.ensures, le-leb _ _ t.if-state-gt1.false))

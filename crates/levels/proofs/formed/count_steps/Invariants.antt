@@ -1,0 +1,16 @@
+-- `formed::count_steps` meets its contract. The loop's invariant: what was counted, and what the definition counts from here on, make the whole.
+use Prim.Native.Nat.{◌+◌, ◌-◌, ◌≤◌}
+use mathlib.Core.Path.{◌≡◌, sym, ◌∙◌}
+use mathlib.Core.Logic.{⊎_elim}
+use mathlib.Core.List.{map}
+use lib.ListN.{length, take, drop, length-map}
+use Rattle.levels.specs.Order.{steps}
+use Rattle.levels.proofs.Rows.{steps_end}
+use Rattle.levels.proofs.Turned.{turned, turned_turn}
+use Rattle.levels.proofs.formed.count_steps.Given as goal
+
+abbrev pub invariant-loop-i : goal.invariant-loop-i
+invariant-loop-i l = (l.i ≤ l.n) × (l.count ≤ l.i) × (steps l.side (take l.n (map turned l.prices)) ≡ l.count + steps l.side (drop l.i (take l.n (map turned l.prices))))
+
+abbrev pub decreases-loop-i : goal.decreases-loop-i
+decreases-loop-i l = l.n - l.i

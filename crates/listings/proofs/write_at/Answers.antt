@@ -1,0 +1,50 @@
+-- `listings::write_at` meets its contract: the plan, held to the room, is written, and the asks follow the bids in the part that is lent on.
+use Prim.Native.Nat.{ℕ, ◌≤◌}
+use native.Mathlib.Omega.{arith}
+use mathlib.Core.Path.{◌≡◌}
+use mathlib.Core.List.{List}
+use borrow.Author.Rules.{rules}
+use Rattle.types.specs.Replies.{Reply}
+use Rattle.types.specs.Written.{fitted}
+use Rattle.orderbook.specs.declared.OrderBook.{OrderBook}
+use Rattle.listings.specs.declared.plan.Plan.{Plan}
+use Rattle.listings.specs.Inner.Plans.{places_of, in_room, Plans}
+use Rattle.listings.proofs.Plans.{room_plans, room_taken, plan-written}
+use Rattle.listings.proofs.write_at.Goals as goal
+
+-- the plan q is p, held to the room
+module _ (ns : Reply (List ℕ)) (b : OrderBook) (p q : Plan) (room : ℕ) (w : Plans ns b p) (e : q ≡ in_room room p) where
+  held : Plans (fitted room ns) b q
+  held = rw e (room_plans room ns b p w)
+
+  fits : places_of q.bids q.asks ≤ room
+  fits = room_taken room ns b q held
+
+pub write-requires : goal.write-requires
+write-requires c =
+    let w = held _ _ _ _ _ c.plan_of.ensures c.in_room-plan.ensures in
+    let h = fits _ _ _ _ _ c.plan_of.ensures c.in_room-plan.ensures in
+    (w.long.bid-prices, w.long.bid_quantities, w.bids, omega arith)
+
+pub overflow_mul-b : goal.overflow_mul-b
+overflow_mul-b c = let h = (held _ _ _ _ _ c.plan_of.ensures c.in_room-plan.ensures).bids in search rules
+
+pub offset_bounds-out-b : goal.offset_bounds-out-b
+offset_bounds-out-b c = let h = (held _ _ _ _ _ c.plan_of.ensures c.in_room-plan.ensures).bids in search rules
+
+pub slice_bounds-write-count : goal.slice_bounds-write-count
+slice_bounds-write-count c = let h = fits _ _ _ _ _ c.plan_of.ensures c.in_room-plan.ensures in search rules
+
+pub slice_bounds-write-start : goal.slice_bounds-write-start
+slice_bounds-write-start c = let h = fits _ _ _ _ _ c.plan_of.ensures c.in_room-plan.ensures in search rules
+
+pub write-requires-2 : goal.write-requires-2
+write-requires-2 c =
+    let w = held _ _ _ _ _ c.plan_of.ensures c.in_room-plan.ensures in
+    let h = fits _ _ _ _ _ c.plan_of.ensures c.in_room-plan.ensures in
+    (w.long.ask-prices, w.long.ask_quantities, w.asks, search rules)
+
+pub returns : goal.returns
+returns c =
+    let w = held _ _ _ _ _ c.plan_of.ensures c.in_room-plan.ensures in
+    plan-written _ _ c.in_room-plan.result c.args.out.now _ _ w c.write.ensures c.write-2.ensures

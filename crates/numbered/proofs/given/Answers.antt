@@ -1,0 +1,6 @@
+-- `numbered::given` meets its contract: the outcome is told beside the counts.
+use borrow.Author.Rules.{rules}
+use Rattle.numbered.proofs.given.Goals as goal
+
+pub returns : goal.returns
+returns c = rw c.of_outcome.ensures

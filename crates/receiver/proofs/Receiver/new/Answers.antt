@@ -1,0 +1,6 @@
+-- `Receiver::new` meets its contract: the book is the empty one.
+use borrow.Author.Rules.{rules}
+use Rattle.receiver.proofs.Receiver.new.Goals as goal
+
+pub returns : goal.returns
+returns c = rw c.new.ensures

@@ -1,0 +1,6 @@
+-- `ask_at` meets its contract: the book's answer behind the state's gate.
+use borrow.Author.Rules.{rules}
+use Rattle.receiver_questions.proofs.ask_at.Goals as goal
+
+pub returns : goal.returns
+returns c = rw (c.gated.ensures, c.ask_at.ensures)

@@ -1,0 +1,12 @@
+-- `gate::gated_number` meets its contract: each state has its own gate.
+use borrow.Author.Rules.{rules}
+use Rattle.receiver_questions.specs.Gate.{gate}
+use Rattle.receiver_questions.proofs.gate.gated_number.Goals as goal
+
+pub returns-in-Waiting : goal.returns-in-Waiting
+unfolding gate
+returns-in-Waiting c = rw c.in-Waiting.is c.shut_number.ensures
+
+pub returns-in-Live : goal.returns-in-Live
+unfolding gate
+returns-in-Live c = rw c.in-Live.is

@@ -1,0 +1,6 @@
+-- `sides::volume::skew` meets its contract: the bid over the sum of both.
+use borrow.Author.Rules.{rules}
+use Rattle.sides.proofs.volume.skew.Goals as goal
+
+pub returns : goal.returns
+returns c = rw (c.over.ensures, c.of.ensures)
