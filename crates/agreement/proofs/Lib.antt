@@ -1,3 +1,4 @@
 pub mod Senders
 pub mod Follows
 pub mod Agrees
+pub mod Examples
