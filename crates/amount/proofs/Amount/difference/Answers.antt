@@ -1,5 +1,4 @@
 -- `Amount::difference`: the sizes of two numbers without a sign are the numbers.
-use borrow.Author.Rules.{rules}
 use native.Mathlib.Omega.{arith}
 use Rattle.amount.proofs.Amount.difference.Goals as goal
 

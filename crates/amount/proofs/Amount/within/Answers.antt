@@ -1,5 +1,4 @@
 -- `Amount::within`: the size is what `size` says.
-use borrow.Author.Rules.{rules}
 use Rattle.amount.proofs.Amount.within.Goals as goal
 
 pub returns : goal.returns
