@@ -89,6 +89,7 @@ fn distance(a: u32, b: u32) -> u32
 }
 
 // The smallest of `most` and the gaps between neighbours among the first `n` prices.
+#[tactic(auto, using(crate::proofs::Turns::least_turn))]
 pub fn smallest_gap(prices: &[u32; 128], n: usize, most: u32) -> u32
     requires { (length prices.now ≡ 128) × (n ≤ 128) }
     ensures { result ≡ least_from most (gaps_of (take n prices.now)) }
