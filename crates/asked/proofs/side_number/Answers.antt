@@ -1,6 +1,5 @@
 -- `asked::side_number` meets its contract: each question is answered by the function of its clause.
 use native.Mathlib.Omega.{arith}
-use borrow.Author.Rules.{rules}
 use mathlib.Core.Path.{ap, ◌∙◌}
 use Rattle.types.specs.Replies.{done}
 use Rattle.sides.proofs.Volumes.{counted, all-best}

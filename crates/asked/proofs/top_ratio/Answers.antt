@@ -1,5 +1,4 @@
 -- `asked::top_ratio` meets its contract: each question is answered by the function of its clause.
-use borrow.Author.Rules.{rules}
 use Rattle.asked.proofs.top_ratio.Goals as goal
 
 pub returns-in-MidPrice : goal.returns-in-MidPrice

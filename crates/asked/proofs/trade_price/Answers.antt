@@ -1,5 +1,4 @@
 -- `asked::trade_price` meets its contract: each trade is priced by the function of its clause.
-use borrow.Author.Rules.{rules}
 use Rattle.asked.proofs.trade_price.Goals as goal
 
 pub returns-in-VwapForQty : goal.returns-in-VwapForQty

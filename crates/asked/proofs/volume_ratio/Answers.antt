@@ -1,5 +1,4 @@
 -- `asked::volume_ratio` meets its contract: each question is answered by the function of its clause.
-use borrow.Author.Rules.{rules}
 use Rattle.asked.proofs.volume_ratio.Goals as goal
 
 pub returns-in-Imbalance : goal.returns-in-Imbalance

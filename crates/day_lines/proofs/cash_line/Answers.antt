@@ -1,8 +1,5 @@
 -- `cash_line` meets its contract: the first word is `cash`, and the second is read.
-use mathlib.Core.Bool.{Bool}
-use mathlib.Core.List.{List}
 use mathlib.Core.Path.{◌≡◌, sym, ◌∙◌}
-use Prim.Native.Nat.{ℕ}
 use Rattle.day_lines.specs.Words.{word_at, alike}
 use Rattle.day_lines.specs.Lines.{cash}
 use Rattle.day_lines.proofs.Cuts.{alike_is}

@@ -1,5 +1,4 @@
 -- `fill_line` meets its contract: each word is read as its part of a fill.
-use borrow.Author.Rules.{rules}
 use Rattle.day_lines.proofs.fill_line.Goals as goal
 
 pub returns : goal.returns

@@ -1,6 +1,5 @@
 -- `fill_said` meets its contract: a part that is something else makes the line so, and the numbers fit their fields.
 use native.Mathlib.Omega.{arith}
-use borrow.Author.Rules.{rules}
 use Rattle.day_lines.proofs.fill_said.Goals as goal
 
 pub returns-in_default-commission : goal.returns-in_default-commission

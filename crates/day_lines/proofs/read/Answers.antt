@@ -1,6 +1,5 @@
 -- `read` meets its contract: what is spoken is what was cut off.
 use mathlib.Core.Path.{sym}
-use borrow.Author.Rules.{rules}
 use lib.Seq.{length-take-le}
 use Rattle.day_lines.proofs.read.Goals as goal
 

@@ -1,6 +1,5 @@
 -- `said_by` meets its contract, by how many words there are.
 use mathlib.Core.Path.{sym, ◌∙◌}
-use borrow.Author.Rules.{rules}
 use Rattle.day_lines.specs.Words.{words}
 use Rattle.day_lines.proofs.Says.{none_say, two_say, five-say, others_say}
 use Rattle.day_lines.proofs.said_by.Goals as goal

@@ -1,5 +1,4 @@
 -- `small` meets its contract: the word of the index, read up to the largest u32.
-use borrow.Author.Rules.{rules}
 use Rattle.day_lines.proofs.small.Goals as goal
 
 pub returns : goal.returns

@@ -1,10 +1,9 @@
 -- `spoken_end` meets its contract. The loop's invariant: what is spoken is what was passed, and what is spoken of the rest.
 use Prim.Native.Nat.{◌-◌, ◌≤◌}
-use mathlib.Core.Path.{◌≡◌, refl}
+use mathlib.Core.Path.{◌≡◌}
 use mathlib.Core.List.{◌++◌}
 use lib.ListN.{length, take, drop}
 use Rattle.day_lines.specs.Words.{spoken}
-use Rattle.day_lines.proofs.Cuts.{spoken_on, spoken_remark, spoken-all}
 use Rattle.day_lines.proofs.spoken_end.Given as goal
 
 abbrev pub invariant-loop-i : goal.invariant-loop-i

@@ -1,6 +1,5 @@
 -- `names::delta_of` meets its contract: both numbers are tested first.
 use borrow.Author.Tests.{lt-leb, le-leb}
-use borrow.Author.Rules.{rules}
 use Rattle.names.proofs.delta_of.Goals as goal
 
 pub returns-then-side-gt1 : goal.returns-then-side-gt1

@@ -1,5 +1,4 @@
 -- `names::kind_told` meets its contract: each arm tells its kind.
-use borrow.Author.Rules.{rules}
 use Rattle.names.proofs.kind_told.Goals as goal
 
 pub returns-in-Delta : goal.returns-in-Delta

@@ -1,6 +1,5 @@
 -- `names::listing_of` meets its contract: the side is tested first.
 use borrow.Author.Tests.{lt-leb, le-leb}
-use borrow.Author.Rules.{rules}
 use Rattle.names.proofs.listing_of.Goals as goal
 
 pub returns-then-side-gt1 : goal.returns-then-side-gt1

@@ -1,6 +1,5 @@
 -- `names::refused` meets its contract: 1 comes first.
 use mathlib.Core.Path.{sym, ◌∙◌}
-use borrow.Author.Rules.{rules}
 use Rattle.names.proofs.refused.Goals as goal
 
 pub returns-then-is_book : goal.returns-then-is_book

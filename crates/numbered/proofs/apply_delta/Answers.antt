@@ -1,6 +1,5 @@
 -- `numbered::apply_delta` meets its contract: the rows take the delta that the numbers name.
 use mathlib.Core.Path.{ap, ◌∙◌}
-use borrow.Author.Rules.{rules}
 use Rattle.numbered.specs.Books.{book_told, applied_by}
 use Rattle.numbered.proofs.Named.{changed, unchanged}
 use Rattle.numbered.proofs.apply_delta.Goals as goal

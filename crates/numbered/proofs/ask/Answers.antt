@@ -1,7 +1,6 @@
 -- `numbered::ask` meets its contract: the book answers the question that the numbers name.
 use Rattle.orderbook.specs.Lent.{book_at}
 use mathlib.Core.Path.{ap, ◌∙◌}
-use borrow.Author.Rules.{rules}
 use Rattle.told.specs.Numbers.{tell}
 use Rattle.questions.specs.Asked.{values_in}
 use Rattle.numbered.specs.Books.{asked_by}

@@ -1,6 +1,5 @@
 -- `numbered::clear` meets its contract: what clear left is told.
 use mathlib.Core.Path.{ap}
-use borrow.Author.Rules.{rules}
 use Rattle.numbered.specs.Books.{book_told}
 use Rattle.numbered.proofs.clear.Goals as goal
 

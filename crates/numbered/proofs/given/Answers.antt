@@ -1,5 +1,4 @@
 -- `numbered::given` meets its contract: the outcome is told beside the counts.
-use borrow.Author.Rules.{rules}
 use Rattle.numbered.proofs.given.Goals as goal
 
 pub returns : goal.returns

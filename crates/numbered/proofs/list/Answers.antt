@@ -5,7 +5,6 @@ use mathlib.Core.Path.{ap, ◌∙◌}
 use mathlib.Core.List.{List}
 use Rattle.types.specs.Replies.{Reply}
 use Rattle.types.specs.Written.{written}
-use borrow.Author.Rules.{rules}
 use Rattle.numbered.specs.Memory.{told_left}
 use Rattle.numbered.specs.Books.{listed_by}
 use Rattle.numbered.proofs.Named.{answered, left-told, unwritten}

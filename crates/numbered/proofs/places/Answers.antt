@@ -7,7 +7,6 @@ use lib.ListN.{length}
 use Rattle.types.specs.Replies.{Reply, map_reply}
 use Rattle.types.specs.Written.{fitted}
 use Rattle.told.specs.Numbers.{tell, one_number}
-use borrow.Author.Rules.{rules}
 use Rattle.numbered.specs.Books.{listed_by}
 use Rattle.numbered.proofs.Named.{answered, unplaced}
 use Rattle.numbered.proofs.places.Goals as goal

@@ -1,7 +1,6 @@
 -- `numbered::remove_all` meets its contract: the side is emptied if its number names one.
 use mathlib.Core.Path.{ap, ◌∙◌}
 use borrow.Author.Tests.{lt-leb, le-leb}
-use borrow.Author.Rules.{rules}
 use Rattle.numbered.specs.Books.{book_told, cleared_by}
 use Rattle.numbered.proofs.remove_all.Goals as goal
 

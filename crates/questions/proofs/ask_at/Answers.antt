@@ -1,5 +1,4 @@
 -- `questions::ask_at` meets its contract: each question is answered by the function of its kind.
-use borrow.Author.Rules.{rules}
 use Rattle.questions.specs.Asked.{book_ask}
 use Rattle.questions.proofs.ask_at.Goals as goal
 

@@ -1,5 +1,4 @@
 -- `ask_at` meets its contract: the book's answer behind the state's gate.
-use borrow.Author.Rules.{rules}
 use Rattle.receiver_questions.proofs.ask_at.Goals as goal
 
 pub returns : goal.returns

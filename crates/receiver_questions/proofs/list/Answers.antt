@@ -1,6 +1,5 @@
 -- `list` meets its contract: as many places are handed back as the writer filled.
 use mathlib.Core.Path.{refl}
-use borrow.Author.Rules.{rules}
 use Rattle.receiver_questions.specs.Gate.{receiver_numbers}
 use Rattle.listings.proofs.Fronts.{front_part, front_none}
 use Rattle.receiver_questions.proofs.list.Goals as goal

@@ -1,6 +1,5 @@
 -- `places_at` meets its contract: the answer of the book's listing behind the state's gate.
 use mathlib.Core.Path.{◌∙◌, ap}
-use borrow.Author.Rules.{rules}
 use Rattle.receiver_questions.specs.Gate.{gate}
 use Rattle.receiver_questions.proofs.Gated.{gate-fitted}
 use Rattle.receiver_questions.proofs.places_at.Goals as goal

@@ -1,6 +1,5 @@
 -- `write_at` meets its contract: waiting, nothing is written; live, the book's writer writes.
 use mathlib.Core.Path.{◌∙◌}
-use borrow.Author.Rules.{rules}
 use Rattle.receiver_questions.proofs.Gated.{waiting-left, live_left}
 use Rattle.receiver_questions.proofs.write_at.Goals as goal
 

@@ -1,15 +1,14 @@
 -- `walks::fill` meets its contract: the cost so far and that of what is left are the whole, what was passed and what is left fill the
 -- target, and each lot costs less than 2^32.
-use Prim.Native.Nat.{ℕ, ◌+◌, ◌-◌, ◌*◌, ◌≤◌, ◌<◌}
+use Prim.Native.Nat.{ℕ, ◌+◌, ◌-◌, ◌*◌, ◌≤◌}
 use native.Mathlib.Nat.{mul-le-mul_right}
 use native.Mathlib.Omega.{arith}
 use mathlib.Core.Path.{◌≡◌, ap}
-use borrow.Author.Rules.{rules}
 use borrow.Author.Tests.{le-leb, lt-leb}
 use Rattle.levels.specs.Table.{levels, rows}
 use Rattle.walks.specs.declared.Filling.TheVariants.{Cost}
 use Rattle.walks.specs.Walk.{total_of, cost_of}
-use Rattle.walks.proofs.Turns.{rest, total-turn, total_end, cost_last, cost_more}
+use Rattle.walks.proofs.Turns.{total-turn, total_end, cost_last, cost_more}
 use Rattle.walks.proofs.fill.Goals as goal
 
 -- x lots at the price passed cost less than 2^32 each

@@ -1,13 +1,10 @@
 -- `walks::fill` meets its contract: the cost so far and that of what is left are the whole, what was passed and what is left fill the
 -- target, and each lot costs less than 2^32.
-use Prim.Native.Nat.{ℕ, ◌+◌, ◌-◌, ◌*◌, ◌≤◌, ◌<◌}
-use native.Mathlib.Nat.{mul-le-mul_right}
-use mathlib.Core.Path.{◌≡◌, ap}
-use borrow.Author.Tests.{le-leb, lt-leb}
+use Prim.Native.Nat.{◌+◌, ◌-◌, ◌*◌, ◌≤◌, ◌<◌}
+use mathlib.Core.Path.{◌≡◌}
 use Rattle.levels.specs.Table.{levels, rows}
-use Rattle.walks.specs.declared.Filling.TheVariants.{Cost}
 use Rattle.walks.specs.Walk.{total_of, cost_of}
-use Rattle.walks.proofs.Turns.{rest, total-turn, total_end, cost_last, cost_more}
+use Rattle.walks.proofs.Turns.{rest}
 use Rattle.walks.proofs.fill.Given as goal
 
 abbrev pub invariant-loop-i : goal.invariant-loop-i

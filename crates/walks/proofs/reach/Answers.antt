@@ -1,11 +1,8 @@
 -- `walks::reach` meets its contract: the answer is the one for what is left of the levels and of the target, from the last price passed.
-use Prim.Native.Nat.{◌-◌, ◌≤◌}
+use Prim.Native.Nat.{◌-◌}
 use native.Mathlib.Omega.{arith}
-use mathlib.Core.Path.{◌≡◌, sym, ◌∙◌}
-use borrow.Author.Rules.{rules}
-use Rattle.levels.specs.Table.{levels, rows}
-use Rattle.walks.specs.Walk.{reach_from}
-use Rattle.walks.proofs.Turns.{rest, reach_last, reach_more, reach_end}
+use mathlib.Core.Path.{sym, ◌∙◌}
+use Rattle.walks.proofs.Turns.{reach_last, reach_more, reach_end}
 use Rattle.walks.proofs.reach.Goals as goal
 
 pub returns-then-left-quantity : goal.returns-then-left-quantity

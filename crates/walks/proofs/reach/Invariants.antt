@@ -1,9 +1,9 @@
 -- `walks::reach` meets its contract: the answer is the one for what is left of the levels and of the target, from the last price passed.
 use Prim.Native.Nat.{◌-◌, ◌≤◌}
-use mathlib.Core.Path.{◌≡◌, sym, ◌∙◌}
+use mathlib.Core.Path.{◌≡◌}
 use Rattle.levels.specs.Table.{levels, rows}
 use Rattle.walks.specs.Walk.{reach_from}
-use Rattle.walks.proofs.Turns.{rest, reach_last, reach_more, reach_end}
+use Rattle.walks.proofs.Turns.{rest}
 use Rattle.walks.proofs.reach.Given as goal
 
 abbrev pub invariant-loop-i : goal.invariant-loop-i

@@ -1,12 +1,8 @@
 -- `walks::smallest_gap` meets its contract: the answer is the smallest of the least so far and of the gaps that are left.
-use Prim.Native.Nat.{◌-◌, ◌≤◌}
+use Prim.Native.Nat.{◌-◌}
 use native.Mathlib.Omega.{arith}
-use mathlib.Core.Path.{◌≡◌, sym, ◌∙◌}
-use mathlib.Core.Logic.{⊎_elim}
-use lib.ListN.{take, drop}
-use borrow.Author.Rules.{rules}
-use Rattle.walks.specs.Walk.{gaps_of, least_from}
-use Rattle.walks.proofs.Turns.{least_turn, least_end}
+use mathlib.Core.Path.{sym, ◌∙◌}
+use Rattle.walks.proofs.Turns.{least_end}
 use Rattle.walks.proofs.smallest_gap.Goals as goal
 
 pub returns : goal.returns

@@ -1,10 +1,8 @@
 -- `walks::smallest_gap` meets its contract: the answer is the smallest of the least so far and of the gaps that are left.
 use Prim.Native.Nat.{◌-◌, ◌≤◌}
-use mathlib.Core.Path.{◌≡◌, sym, ◌∙◌}
-use mathlib.Core.Logic.{⊎_elim}
+use mathlib.Core.Path.{◌≡◌}
 use lib.ListN.{take, drop}
 use Rattle.walks.specs.Walk.{gaps_of, least_from}
-use Rattle.walks.proofs.Turns.{least_turn, least_end}
 use Rattle.walks.proofs.smallest_gap.Given as goal
 
 abbrev pub invariant-loop-i : goal.invariant-loop-i

@@ -1,10 +1,6 @@
 -- `walks::total` meets its contract: the sum so far and the sum of what is left are the whole, and each place adds less than 2^32.
-use Prim.Native.Nat.{◌+◌, ◌-◌, ◌*◌, ◌≤◌}
+use Prim.Native.Nat.{◌-◌}
 use native.Mathlib.Omega.{arith}
-use mathlib.Core.Path.{◌≡◌}
-use lib.ListN.{take, drop}
-use borrow.Author.Rules.{rules}
-use Rattle.walks.specs.Walk.{sum_of}
 use Rattle.walks.proofs.Turns.{sum-turn, sum_end}
 use Rattle.walks.proofs.total.Goals as goal
 

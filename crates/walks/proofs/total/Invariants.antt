@@ -3,7 +3,6 @@ use Prim.Native.Nat.{◌+◌, ◌-◌, ◌*◌, ◌≤◌}
 use mathlib.Core.Path.{◌≡◌}
 use lib.ListN.{take, drop}
 use Rattle.walks.specs.Walk.{sum_of}
-use Rattle.walks.proofs.Turns.{sum-turn, sum_end}
 use Rattle.walks.proofs.total.Given as goal
 
 abbrev pub invariant-loop-place : goal.invariant-loop-place

@@ -7,7 +7,7 @@ use lib.IntN.{ℤ, nat_abs, pos}
 use lib.Signed.{lt_z, nat_abs-le}
 use Rattle.amount.proofs.Integers.{negated_size, raised_size, raised_sign, not_negative}
 use Rattle.amount.proofs.Amount.size.Goals as goal
-use Rattle.amount.proofs.Amount.size.Goals.{After-raised, After-unsigned, Start, Then-is_negative}
+use Rattle.amount.proofs.Amount.size.Goals.{After-raised, Start, Then-is_negative}
 
 abbrev number : Start → ℤ
 number s = s.args.self.value

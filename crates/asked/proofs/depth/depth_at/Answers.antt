@@ -1,12 +1,9 @@
 -- `asked::depth::depth_at` meets its contract: the quantity stands at the place where the search finds the price.
-use Prim.Native.Nat.{◌<◌}
 use mathlib.Core.Path.{sym, ◌∙◌}
 use native.Mathlib.Omega.{arith}
-use borrow.Author.Rules.{rules}
 use Rattle.types.proofs.Booleans.{passed, failed}
 use Rattle.asked.proofs.Finds.{lent, found_in, found_depth, absent_depth}
 use Rattle.asked.proofs.depth.depth_at.Goals as goal
-use Rattle.asked.proofs.depth.depth_at.Goals.{In-At}
 
 pub bounds-quantities-i : goal.bounds-quantities-i
 bounds-quantities-i c =

@@ -3,7 +3,6 @@ use Prim.Native.Nat.{◌+◌, ◌-◌, ◌<◌}
 use mathlib.Core.Path.{sym}
 use mathlib.Core.Logic.{⊎_elim}
 use native.Mathlib.Omega.{arith}
-use borrow.Author.Rules.{rules}
 use Rattle.asked.proofs.Ticks.{tick_none, tick_some}
 use Rattle.asked.proofs.depth.tick_size.Goals as goal
 use Rattle.asked.proofs.depth.tick_size.Goals.{Joined-n-lt2}

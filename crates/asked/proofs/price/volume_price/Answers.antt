@@ -1,6 +1,5 @@
 -- `asked::price::volume_price` meets its contract: one law for each answer.
 use mathlib.Core.Path.{◌≡◌, sym, ◌∙◌}
-use borrow.Author.Rules.{rules}
 use lib.ListN.{length}
 use Rattle.levels.specs.Table.{levels, rows}
 use Rattle.sides.proofs.Volumes.{counted}

@@ -2,7 +2,6 @@
 use mathlib.Core.Path.{◌≡◌}
 use mathlib.Core.Bool.{true}
 use native.Mathlib.Omega.{arith}
-use borrow.Author.Rules.{rules}
 use borrow.Author.Tests.{ne_eqb, leb-true}
 use Rattle.types.specs.Limits.{is_quantity}
 use Rattle.types.proofs.Booleans.{passed, failed}

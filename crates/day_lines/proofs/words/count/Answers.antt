@@ -1,11 +1,8 @@
 -- `count` meets its contract. The loop's invariant: the words that were counted and those that are left are all.
-use Prim.Native.Nat.{◌+◌, ◌-◌, ◌≤◌}
-use mathlib.Core.Path.{◌≡◌, ap}
+use Prim.Native.Nat.{◌-◌}
+use mathlib.Core.Path.{ap}
 use native.Mathlib.Omega.{arith}
-use borrow.Author.Rules.{rules}
-use lib.ListN.{length, drop}
-use Rattle.day_lines.specs.Words.{words}
-use Rattle.day_lines.specs.Inner.Places.{Starts}
+use lib.ListN.{length}
 use Rattle.day_lines.proofs.Cuts.{counted, counted-all}
 use Rattle.day_lines.proofs.words.count.Goals as goal
 

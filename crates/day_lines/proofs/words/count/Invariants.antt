@@ -1,10 +1,9 @@
 -- `count` meets its contract. The loop's invariant: the words that were counted and those that are left are all.
 use Prim.Native.Nat.{◌+◌, ◌-◌, ◌≤◌}
-use mathlib.Core.Path.{◌≡◌, ap}
+use mathlib.Core.Path.{◌≡◌}
 use lib.ListN.{length, drop}
 use Rattle.day_lines.specs.Words.{words}
 use Rattle.day_lines.specs.Inner.Places.{Starts}
-use Rattle.day_lines.proofs.Cuts.{counted, counted-all}
 use Rattle.day_lines.proofs.words.count.Given as goal
 
 abbrev pub invariant-loop-at : goal.invariant-loop-at

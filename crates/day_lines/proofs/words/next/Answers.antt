@@ -1,5 +1,4 @@
 -- `next` meets its contract: behind the end of the word that stands at the place, and the blanks there.
-use borrow.Author.Rules.{rules}
 use Rattle.day_lines.proofs.Cuts.{next_place}
 use Rattle.day_lines.proofs.words.next.Goals as goal
 

@@ -1,11 +1,7 @@
 -- `place` meets its contract. The loop's invariant: the words from here on are those from index i on.
-use Prim.Native.Nat.{◌-◌, ◌≤◌}
+use Prim.Native.Nat.{◌-◌}
 use mathlib.Core.Path.{◌≡◌}
 use native.Mathlib.Omega.{arith}
-use borrow.Author.Rules.{rules}
-use lib.ListN.{drop}
-use Rattle.day_lines.specs.Words.{words}
-use Rattle.day_lines.specs.Inner.Places.{Starts}
 use Rattle.day_lines.proofs.Cuts.{further_on}
 use Rattle.day_lines.proofs.words.place.Goals as goal
 

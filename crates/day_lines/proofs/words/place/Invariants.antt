@@ -4,7 +4,6 @@ use mathlib.Core.Path.{◌≡◌}
 use lib.ListN.{drop}
 use Rattle.day_lines.specs.Words.{words}
 use Rattle.day_lines.specs.Inner.Places.{Starts}
-use Rattle.day_lines.proofs.Cuts.{further_on}
 use Rattle.day_lines.proofs.words.place.Given as goal
 
 abbrev pub invariant-loop-i : goal.invariant-loop-i

@@ -1,10 +1,7 @@
 -- `skip` meets its contract. The loop's invariant: the words from here on are those from the index on.
-use Prim.Native.Nat.{◌-◌, ◌≤◌}
-use mathlib.Core.Path.{◌≡◌, refl, sym, ◌∙◌}
+use Prim.Native.Nat.{◌-◌}
+use mathlib.Core.Path.{refl, sym, ◌∙◌}
 use native.Mathlib.Omega.{arith}
-use borrow.Author.Rules.{rules}
-use lib.ListN.{length, drop}
-use Rattle.day_lines.specs.Words.{words}
 use Rattle.day_lines.proofs.Cuts.{blank-passed}
 use Rattle.day_lines.proofs.words.skip.Goals as goal
 

@@ -1,9 +1,8 @@
 -- `skip` meets its contract. The loop's invariant: the words from here on are those from the index on.
 use Prim.Native.Nat.{◌-◌, ◌≤◌}
-use mathlib.Core.Path.{◌≡◌, refl, sym, ◌∙◌}
+use mathlib.Core.Path.{◌≡◌}
 use lib.ListN.{length, drop}
 use Rattle.day_lines.specs.Words.{words}
-use Rattle.day_lines.proofs.Cuts.{blank-passed}
 use Rattle.day_lines.proofs.words.skip.Given as goal
 
 abbrev pub invariant-loop-i : goal.invariant-loop-i

@@ -1,5 +1,4 @@
 -- `word` meets its contract: the part from the word's place to its end.
-use borrow.Author.Rules.{rules}
 use Rattle.day_lines.proofs.Cuts.{word_there}
 use Rattle.day_lines.proofs.words.word.Goals as goal
 

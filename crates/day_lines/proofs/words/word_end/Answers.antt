@@ -1,11 +1,8 @@
 -- `word_end` meets its contract. The loop's invariant: the first part from the place on is what was passed, and the first part from here on.
-use Prim.Native.Nat.{◌-◌, ◌≤◌}
-use mathlib.Core.Path.{◌≡◌, sym, ◌∙◌}
+use Prim.Native.Nat.{◌-◌}
+use mathlib.Core.Path.{sym, ◌∙◌}
 use native.Mathlib.Omega.{arith}
-use borrow.Author.Rules.{rules}
-use lib.ListN.{length, take, drop}
-use Rattle.day_lines.specs.Words.{parts}
-use Rattle.day_lines.proofs.Cuts.{before, word-start, word_on, word_blank, word-last, past_start}
+use Rattle.day_lines.proofs.Cuts.{word-start, word_on, word_blank, word-last, past_start}
 use Rattle.day_lines.proofs.words.word_end.Goals as goal
 
 pub loop-i-init : goal.loop-i-init

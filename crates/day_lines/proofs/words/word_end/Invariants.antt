@@ -1,9 +1,9 @@
 -- `word_end` meets its contract. The loop's invariant: the first part from the place on is what was passed, and the first part from here on.
 use Prim.Native.Nat.{◌-◌, ◌≤◌}
-use mathlib.Core.Path.{◌≡◌, sym, ◌∙◌}
+use mathlib.Core.Path.{◌≡◌}
 use lib.ListN.{length, take, drop}
 use Rattle.day_lines.specs.Words.{parts}
-use Rattle.day_lines.proofs.Cuts.{before, word-start, word_on, word_blank, word-last, past_start}
+use Rattle.day_lines.proofs.Cuts.{before}
 use Rattle.day_lines.proofs.words.word_end.Given as goal
 
 abbrev pub invariant-loop-i : goal.invariant-loop-i

@@ -1,5 +1,4 @@
 -- `feed::delta_told` meets its contract: the delta is told by its numbers.
-use borrow.Author.Rules.{rules}
 use Rattle.exports.proofs.feed.delta_told.Goals as goal
 
 pub returns : goal.returns

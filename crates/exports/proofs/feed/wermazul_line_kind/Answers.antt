@@ -1,6 +1,5 @@
 -- `feed::wermazul_line_kind` meets its contract: the kind of what the line reads as.
 use mathlib.Core.Path.{ap, ◌∙◌}
-use borrow.Author.Rules.{rules}
 use Rattle.told.specs.Numbers.{tell}
 use Rattle.lines.specs.Read.{Read}
 use Rattle.names.specs.Kinds.{kind_of}

@@ -1,6 +1,5 @@
 -- `feed::wermazul_read_line` meets its contract: each arm tells its frame.
 use mathlib.Core.Path.{ap, ◌∙◌}
-use borrow.Author.Rules.{rules}
 use Rattle.exports.specs.Feeds.{line_told}
 use Rattle.exports.proofs.Frames.{told-delta, told_bare}
 use Rattle.exports.proofs.feed.wermazul_read_line.Goals as goal

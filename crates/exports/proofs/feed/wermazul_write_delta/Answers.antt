@@ -1,10 +1,7 @@
 -- `feed::wermazul_write_delta` meets its contract: the line of the delta that the numbers name.
-use Prim.Native.Nat.{ℕ}
-use mathlib.Core.Path.{refl, ap, ◌∙◌}
-use mathlib.Core.List.{List}
+use mathlib.Core.Path.{ap, ◌∙◌}
 use Rattle.types.specs.Replies.{Reply}
 use Rattle.types.specs.Written.{written}
-use borrow.Author.Rules.{rules}
 use Rattle.deltas.specs.declared.BookDelta.{BookDelta}
 use Rattle.numbered.specs.Memory.{told_left}
 use Rattle.exports.specs.Feeds.{line_of, delta_line_by}

@@ -1,5 +1,4 @@
 -- `feed::wermazul_write_snapshot` meets its contract: what the writer left is told.
-use borrow.Author.Rules.{rules}
 use Rattle.numbered.proofs.Named.{left-told}
 use Rattle.exports.proofs.feed.wermazul_write_snapshot.Goals as goal
 

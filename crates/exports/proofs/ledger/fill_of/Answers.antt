@@ -1,5 +1,4 @@
 -- `ledger::fill_of` meets its contract: the side is that of its number.
-use borrow.Author.Rules.{rules}
 use Rattle.exports.proofs.ledger.fill_of.Goals as goal
 
 pub returns : goal.returns

@@ -1,5 +1,4 @@
 -- `ledger::given` meets its contract: the outcome is told beside the totals.
-use borrow.Author.Rules.{rules}
 use Rattle.exports.proofs.ledger.given.Goals as goal
 
 pub returns : goal.returns

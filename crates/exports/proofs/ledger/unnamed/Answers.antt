@@ -1,6 +1,5 @@
 -- `ledger::unnamed` meets its contract: 2 of a ledger, 1 of another record.
 use mathlib.Core.Path.{sym, ◌∙◌}
-use borrow.Author.Rules.{rules}
 use Rattle.exports.proofs.ledger.unnamed.Goals as goal
 
 pub returns-then-is_ledger : goal.returns-then-is_ledger

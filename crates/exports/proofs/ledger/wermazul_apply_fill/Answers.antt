@@ -2,7 +2,6 @@
 use mathlib.Core.Path.{ap, ◌∙◌}
 use borrow.Author.Tests.{lt-leb, le-leb}
 use mir.ValLaws.{to_z-of_z}
-use borrow.Author.Rules.{rules}
 use Rattle.exports.specs.Ledgers.{ledger_told, booked_by}
 use Rattle.exports.proofs.ledger.wermazul_apply_fill.Goals as goal
 

@@ -1,6 +1,5 @@
 -- `ledger::wermazul_apply_fills` meets its contract: what the day left is told.
 use mathlib.Core.Path.{ap}
-use borrow.Author.Rules.{rules}
 use Rattle.exports.specs.Ledgers.{day_told}
 use Rattle.exports.proofs.ledger.wermazul_apply_fills.Goals as goal
 

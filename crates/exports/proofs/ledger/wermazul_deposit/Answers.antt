@@ -1,7 +1,6 @@
 -- `ledger::wermazul_deposit` meets its contract: what the deposit left is told.
 use mathlib.Core.Path.{ap, ◌∙◌}
 use mir.ValLaws.{to_z-of_z}
-use borrow.Author.Rules.{rules}
 use Rattle.exports.specs.Ledgers.{ledger_told}
 use Rattle.exports.proofs.ledger.wermazul_deposit.Goals as goal
 

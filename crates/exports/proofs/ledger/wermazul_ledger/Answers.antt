@@ -1,7 +1,6 @@
 -- `ledger::wermazul_ledger` meets its contract: what `new` gave back is told.
 use mathlib.Core.Path.{ap, ◌∙◌}
 use mir.ValLaws.{to_z-of_z}
-use borrow.Author.Rules.{rules}
 use Rattle.exports.specs.Ledgers.{ledger_told}
 use Rattle.exports.proofs.ledger.wermazul_ledger.Goals as goal
 

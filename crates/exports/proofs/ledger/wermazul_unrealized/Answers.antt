@@ -1,5 +1,4 @@
 -- `ledger::wermazul_unrealized` meets its contract: what the ledger answers is told.
-use borrow.Author.Rules.{rules}
 use Rattle.exports.proofs.ledger.wermazul_unrealized.Goals as goal
 
 pub returns : goal.returns

@@ -1,6 +1,5 @@
 -- `ledger::wermazul_worth` meets its contract: each number has its worth.
 use native.Mathlib.Omega.{arith}
-use borrow.Author.Rules.{rules}
 use Rattle.exports.specs.Ledgers.{worth_by}
 use Rattle.exports.proofs.Worths.{worth_unnamed}
 use Rattle.exports.proofs.ledger.wermazul_worth.Goals as goal

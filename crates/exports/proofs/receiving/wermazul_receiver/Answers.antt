@@ -1,6 +1,5 @@
 -- `receiving::wermazul_receiver` meets its contract: the new receiver, its state by its number.
 use mathlib.Core.Path.{ap}
-use borrow.Author.Rules.{rules}
 use Rattle.exports.specs.Receivers.{held_of}
 use Rattle.exports.proofs.receiving.wermazul_receiver.Goals as goal
 

@@ -2,7 +2,6 @@
 use Rattle.orderbook.specs.Lent.{book_at}
 use mathlib.Core.Path.{ap, ◌∙◌}
 use borrow.Author.Tests.{lt-leb, le-leb}
-use borrow.Author.Rules.{rules}
 use Rattle.told.specs.Numbers.{tell}
 use Rattle.questions.specs.Asked.{values_in}
 use Rattle.exports.specs.Receivers.{held_ask}

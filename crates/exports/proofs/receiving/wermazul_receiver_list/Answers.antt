@@ -6,7 +6,6 @@ use mathlib.Core.List.{List}
 use Rattle.types.specs.Replies.{Reply}
 use Rattle.types.specs.Written.{written}
 use borrow.Author.Tests.{lt-leb, le-leb}
-use borrow.Author.Rules.{rules}
 use Rattle.numbered.specs.Memory.{told_left}
 use Rattle.exports.specs.Receivers.{held_numbers}
 use Rattle.numbered.proofs.Named.{answered, left-told, unwritten}

@@ -8,7 +8,6 @@ use Rattle.types.specs.Replies.{Reply, map_reply}
 use Rattle.types.specs.Written.{fitted}
 use Rattle.told.specs.Numbers.{tell, one_number}
 use borrow.Author.Tests.{lt-leb, le-leb}
-use borrow.Author.Rules.{rules}
 use Rattle.exports.specs.Receivers.{held_numbers}
 use Rattle.numbered.proofs.Named.{answered, unplaced}
 use Rattle.exports.proofs.receiving.wermazul_receiver_places.Goals as goal

@@ -1,7 +1,6 @@
 -- `receiving::wermazul_take_line` meets its contract: a receiver takes the line, and another record stays as it was.
 use mathlib.Core.Path.{ap, ◌∙◌}
 use borrow.Author.Tests.{lt-leb, le-leb}
-use borrow.Author.Rules.{rules}
 use Rattle.exports.specs.Receivers.{held_told, taken_by}
 use Rattle.exports.proofs.receiving.wermazul_take_line.Goals as goal
 

@@ -1,7 +1,6 @@
 -- `Place::reached` meets its contract: each arm is the definition's clause, and of 128 prices the next place is one too.
 use Prim.Native.Nat.{◌+◌, ◌≤◌}
 use native.Mathlib.Omega.{arith}
-use borrow.Author.Rules.{rules}
 use Rattle.levels.proofs.Place.reached.Goals as goal
 use Rattle.levels.proofs.Place.reached.Goals.{In-At}
 

@@ -1,5 +1,4 @@
 -- `formed::ahead_turned` meets its contract: each arm is the definition's clause for that side.
-use borrow.Author.Rules.{rules}
 use Rattle.levels.proofs.formed.ahead_turned.Goals as goal
 
 pub returns-in-Bid : goal.returns-in-Bid

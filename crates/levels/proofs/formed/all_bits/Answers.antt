@@ -1,8 +1,7 @@
 -- `formed::all_bits` meets its contract. The loop's invariant: whatever covers the bits so far and the numbers from here on covers the row.
 use Prim.Native.Nat.{◌-◌}
 use native.Mathlib.Omega.{arith}
-use borrow.Author.Rules.{rules}
-use Rattle.levels.proofs.Bits.{Covers, covers_turn, covers_end}
+use Rattle.levels.proofs.Bits.{covers_turn, covers_end}
 use Rattle.levels.proofs.formed.all_bits.Goals as goal
 
 pub loop-i-preserved : goal.loop-i-preserved

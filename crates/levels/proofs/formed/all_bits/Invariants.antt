@@ -1,6 +1,6 @@
 -- `formed::all_bits` meets its contract. The loop's invariant: whatever covers the bits so far and the numbers from here on covers the row.
 use Prim.Native.Nat.{◌-◌}
-use Rattle.levels.proofs.Bits.{Covers, covers_turn, covers_end}
+use Rattle.levels.proofs.Bits.{Covers}
 use Rattle.levels.proofs.formed.all_bits.Given as goal
 
 abbrev pub invariant-loop-i : goal.invariant-loop-i

@@ -1,10 +1,8 @@
 -- `formed::all_within` meets its contract. The loop's invariant: the flag, and the definition from here on, make the whole.
 use Prim.Native.Nat.{◌+◌, ◌-◌}
 use native.Mathlib.Omega.{arith}
-use mathlib.Core.Path.{◌≡◌, refl}
-use mathlib.Core.Bool.{◌&&◌}
+use mathlib.Core.Path.{refl}
 use mathlib.Core.Logic.{⊎_elim}
-use borrow.Author.Rules.{rules}
 use lib.ListN.{drop, get_or}
 use Rattle.types.specs.Limits.{within}
 use Rattle.levels.specs.Formed.{every}

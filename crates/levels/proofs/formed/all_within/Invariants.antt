@@ -1,13 +1,10 @@
 -- `formed::all_within` meets its contract. The loop's invariant: the flag, and the definition from here on, make the whole.
-use Prim.Native.Nat.{◌+◌, ◌-◌}
-use mathlib.Core.Path.{◌≡◌, refl}
+use Prim.Native.Nat.{◌-◌}
+use mathlib.Core.Path.{◌≡◌}
 use mathlib.Core.Bool.{◌&&◌}
-use mathlib.Core.Logic.{⊎_elim}
-use lib.ListN.{drop, get_or}
+use lib.ListN.{drop}
 use Rattle.types.specs.Limits.{within}
 use Rattle.levels.specs.Formed.{every}
-use Rattle.types.proofs.Booleans.{passed, failed, flag_off, flag_on, flag_end}
-use Rattle.levels.proofs.Rows.{row_turn, row_end}
 use Rattle.levels.proofs.formed.all_within.Given as goal
 
 abbrev pub invariant-loop-i : goal.invariant-loop-i

@@ -1,12 +1,8 @@
 -- `formed::bits_between` meets its contract. The loop's invariant: the bits so far, and both rows from here to `to`, make the whole.
 use Prim.Native.Nat.{◌-◌}
 use native.Mathlib.Omega.{arith}
-use mathlib.Core.Path.{◌≡◌, refl}
-use mathlib.Core.Bool.{◌&&◌}
-use borrow.Author.Rules.{rules}
-use lib.Dec.{eqb}
-use lib.ListN.{take}
-use Rattle.levels.proofs.Bits.{both, bits_turn, bits_end}
+use mathlib.Core.Path.{refl}
+use Rattle.levels.proofs.Bits.{bits_turn, bits_end}
 use Rattle.levels.proofs.formed.bits_between.Goals as goal
 
 pub loop-i-preserved : goal.loop-i-preserved

@@ -1,10 +1,10 @@
 -- `formed::bits_between` meets its contract. The loop's invariant: the bits so far, and both rows from here to `to`, make the whole.
 use Prim.Native.Nat.{◌-◌}
-use mathlib.Core.Path.{◌≡◌, refl}
+use mathlib.Core.Path.{◌≡◌}
 use mathlib.Core.Bool.{◌&&◌}
 use lib.Dec.{eqb}
 use lib.ListN.{take}
-use Rattle.levels.proofs.Bits.{both, bits_turn, bits_end}
+use Rattle.levels.proofs.Bits.{both}
 use Rattle.levels.proofs.formed.bits_between.Given as goal
 
 abbrev pub invariant-loop-i : goal.invariant-loop-i

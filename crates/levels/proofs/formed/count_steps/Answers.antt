@@ -1,12 +1,10 @@
 -- `formed::count_steps` meets its contract. The loop's invariant: what was counted, and what the definition counts from here on, make the whole.
-use Prim.Native.Nat.{◌+◌, ◌-◌, ◌≤◌}
+use Prim.Native.Nat.{◌-◌, ◌≤◌}
 use native.Mathlib.Omega.{arith}
-use mathlib.Core.Path.{◌≡◌, sym, ◌∙◌}
+use mathlib.Core.Path.{sym, ◌∙◌}
 use mathlib.Core.Logic.{⊎_elim}
-use borrow.Author.Rules.{rules}
 use mathlib.Core.List.{map}
-use lib.ListN.{length, take, drop, length-map}
-use Rattle.levels.specs.Order.{steps}
+use lib.ListN.{length, length-map}
 use Rattle.levels.proofs.Rows.{steps_end}
 use Rattle.levels.proofs.Turned.{turned, turned_turn}
 use Rattle.levels.proofs.formed.count_steps.Goals as goal

@@ -1,12 +1,10 @@
 -- `formed::count_steps` meets its contract. The loop's invariant: what was counted, and what the definition counts from here on, make the whole.
 use Prim.Native.Nat.{◌+◌, ◌-◌, ◌≤◌}
-use mathlib.Core.Path.{◌≡◌, sym, ◌∙◌}
-use mathlib.Core.Logic.{⊎_elim}
+use mathlib.Core.Path.{◌≡◌}
 use mathlib.Core.List.{map}
-use lib.ListN.{length, take, drop, length-map}
+use lib.ListN.{take, drop}
 use Rattle.levels.specs.Order.{steps}
-use Rattle.levels.proofs.Rows.{steps_end}
-use Rattle.levels.proofs.Turned.{turned, turned_turn}
+use Rattle.levels.proofs.Turned.{turned}
 use Rattle.levels.proofs.formed.count_steps.Given as goal
 
 abbrev pub invariant-loop-i : goal.invariant-loop-i

@@ -1,6 +1,5 @@
 -- `formed::quantities_fit` meets its contract: where all bits together are in the limits each number is, and else each was tested.
 use mathlib.Core.Path.{sym}
-use borrow.Author.Rules.{rules}
 use Rattle.types.specs.Limits.{max_quantity}
 use Rattle.levels.proofs.Ends.{wider}
 use Rattle.levels.proofs.formed.quantities_fit.Goals as goal

@@ -1,10 +1,8 @@
 -- `formed::unused_are_zero` meets its contract. The loop's invariant: the bits so far are those of the block at `n` and of both rows from here on.
-use Prim.Native.Nat.{◌+◌, ◌-◌, ◌≤◌}
+use Prim.Native.Nat.{◌+◌, ◌-◌}
 use native.Mathlib.Omega.{arith}
-use mathlib.Core.Path.{◌≡◌, sym, ◌∙◌}
-use mathlib.Core.Bool.{◌&&◌, and-true}
-use borrow.Author.Rules.{rules}
-use lib.Dec.{eqb}
+use mathlib.Core.Path.{sym, ◌∙◌}
+use mathlib.Core.Bool.{and-true}
 use lib.ListN.{take}
 use lib.Seq.{take_all}
 use Rattle.types.specs.Limits.{within}

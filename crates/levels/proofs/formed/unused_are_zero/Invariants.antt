@@ -1,13 +1,10 @@
 -- `formed::unused_are_zero` meets its contract. The loop's invariant: the bits so far are those of the block at `n` and of both rows from here on.
 use Prim.Native.Nat.{◌+◌, ◌-◌, ◌≤◌}
-use mathlib.Core.Path.{◌≡◌, sym, ◌∙◌}
-use mathlib.Core.Bool.{◌&&◌, and-true}
+use mathlib.Core.Path.{◌≡◌}
+use mathlib.Core.Bool.{◌&&◌}
 use lib.Dec.{eqb}
 use lib.ListN.{take}
-use lib.Seq.{take_all}
-use Rattle.types.specs.Limits.{within}
-use Rattle.levels.proofs.Bits.{both, block_before, block_turn}
-use Rattle.levels.proofs.Rows.{row_end}
+use Rattle.levels.proofs.Bits.{both}
 use Rattle.levels.proofs.formed.unused_are_zero.Given as goal
 
 abbrev pub invariant-loop-i : goal.invariant-loop-i

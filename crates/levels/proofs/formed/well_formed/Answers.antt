@@ -2,7 +2,6 @@
 use native.Mathlib.Omega.{arith}
 use mathlib.Core.Path.{◌≡◌, sym, ◌∙◌}
 use mathlib.Core.Bool.{true, ◌&&◌, and-eq-true_iff}
-use borrow.Author.Rules.{rules}
 use lib.ListN.{take, drop}
 use Rattle.types.specs.Limits.{within, max_price, max_quantity}
 use Rattle.levels.specs.Order.{in_order}

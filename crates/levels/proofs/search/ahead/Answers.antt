@@ -1,5 +1,4 @@
 -- `search::ahead` meets its contract: each arm is the definition's clause for that side.
-use borrow.Author.Rules.{rules}
 use Rattle.levels.proofs.search.ahead.Goals as goal
 
 pub returns-in-Bid : goal.returns-in-Bid

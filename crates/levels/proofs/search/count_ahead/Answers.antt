@@ -1,5 +1,4 @@
 -- `search::count_ahead` meets its contract: each arm counts by the side that it was handed.
-use borrow.Author.Rules.{rules}
 use Rattle.levels.proofs.search.count_ahead.Goals as goal
 
 pub count_by_run-requires : goal.count_by_run-requires

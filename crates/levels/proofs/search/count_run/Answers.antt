@@ -1,11 +1,9 @@
 -- `search::count_run` meets its contract. The loop's invariant: what was counted, and what the definition counts from here on, make the whole.
-use Prim.Native.Nat.{◌+◌, ◌-◌, ◌≤◌}
+use Prim.Native.Nat.{◌-◌, ◌≤◌}
 use native.Mathlib.Omega.{arith}
-use mathlib.Core.Path.{◌≡◌, sym, ◌∙◌}
+use mathlib.Core.Path.{sym, ◌∙◌}
 use mathlib.Core.Logic.{⊎_elim}
-use borrow.Author.Rules.{rules}
-use lib.ListN.{length, take, drop}
-use Rattle.levels.specs.Order.{count_ahead}
+use lib.ListN.{length}
 use Rattle.levels.proofs.Rows.{count_turn, count_end}
 use Rattle.levels.proofs.search.count_run.Goals as goal
 use Rattle.levels.proofs.search.count_run.Goals.{Start}

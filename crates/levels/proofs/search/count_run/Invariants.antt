@@ -1,10 +1,8 @@
 -- `search::count_run` meets its contract. The loop's invariant: what was counted, and what the definition counts from here on, make the whole.
 use Prim.Native.Nat.{◌+◌, ◌-◌, ◌≤◌}
-use mathlib.Core.Path.{◌≡◌, sym, ◌∙◌}
-use mathlib.Core.Logic.{⊎_elim}
-use lib.ListN.{length, take, drop}
+use mathlib.Core.Path.{◌≡◌}
+use lib.ListN.{take, drop}
 use Rattle.levels.specs.Order.{count_ahead}
-use Rattle.levels.proofs.Rows.{count_turn, count_end}
 use Rattle.levels.proofs.search.count_run.Given as goal
 
 abbrev pub invariant-loop-i : goal.invariant-loop-i

@@ -2,7 +2,6 @@
 use Prim.Native.Nat.{◌≤◌}
 use native.Mathlib.Omega.{arith}
 use mathlib.Core.Path.{sym}
-use borrow.Author.Rules.{rules}
 use lib.ListN.{length}
 use Rattle.levels.proofs.Orders.{place_at, place_before}
 use Rattle.levels.proofs.search.find.Goals as goal

@@ -4,10 +4,9 @@ use Prim.Native.Nat.{◌+◌, ◌-◌, ◌≤◌}
 use native.Mathlib.Omega.{arith}
 use mathlib.Core.Path.{refl, sym, ◌∙◌}
 use mathlib.Core.Logic.{inl, ⊎_elim}
-use borrow.Author.Rules.{rules}
 use lib.ListN.{length, take}
 use Rattle.levels.specs.Order.{count_ahead}
-use Rattle.levels.proofs.Counts.{count-within, place_ahead, place_behind, Blocks, block_ahead, block_behind, blocks_end}
+use Rattle.levels.proofs.Counts.{count-within, place_ahead, place_behind, block_ahead, block_behind, blocks_end}
 use Rattle.levels.proofs.search.run_start.Goals as goal
 use Rattle.levels.proofs.search.run_start.Goals.{After-loop-last, Start}
 

@@ -1,11 +1,9 @@
 -- `search::run_start` meets its contract: the blocks whose last price is ahead hold as many prices ahead as they have places, and the others end within
 -- the next block.
 use Prim.Native.Nat.{◌+◌, ◌-◌, ◌≤◌}
-use mathlib.Core.Path.{refl, sym, ◌∙◌}
-use mathlib.Core.Logic.{inl, ⊎_elim}
-use lib.ListN.{length, take}
+use lib.ListN.{take}
 use Rattle.levels.specs.Order.{count_ahead}
-use Rattle.levels.proofs.Counts.{count-within, place_ahead, place_behind, Blocks, block_ahead, block_behind, blocks_end}
+use Rattle.levels.proofs.Counts.{Blocks}
 use Rattle.levels.proofs.search.run_start.Given as goal
 
 abbrev pub invariant-loop-last : goal.invariant-loop-last

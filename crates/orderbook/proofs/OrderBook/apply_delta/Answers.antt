@@ -1,6 +1,5 @@
 -- `OrderBook::apply_delta` meets its contract: what is left of the rows is put together again.
 use mathlib.Core.Path.{◌∙◌}
-use borrow.Author.Rules.{rules}
 use Rattle.orderbook.proofs.OrderBook.apply_delta.Goals as goal
 
 pub returns : goal.returns

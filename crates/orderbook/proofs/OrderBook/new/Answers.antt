@@ -1,5 +1,4 @@
 -- `orderbook::OrderBook::new` meets its contract: both sides are the empty table.
-use borrow.Author.Rules.{rules}
 use Rattle.orderbook.proofs.OrderBook.new.Goals as goal
 
 pub returns : goal.returns

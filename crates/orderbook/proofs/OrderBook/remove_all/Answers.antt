@@ -1,6 +1,5 @@
 -- `OrderBook::remove_all` meets its contract: what is left of the rows is put together again.
 use mathlib.Core.Path.{◌∙◌}
-use borrow.Author.Rules.{rules}
 use Rattle.orderbook.proofs.OrderBook.remove_all.Goals as goal
 
 pub returns : goal.returns

@@ -1,5 +1,4 @@
 -- `rows::apply_delta` meets its contract: rows that make no book are left, and so is a book whose delta is not admitted.
-use borrow.Author.Rules.{rules}
 use Rattle.types.proofs.Booleans.{failed}
 use Rattle.orderbook.specs.declared.OrderBook.{OrderBook}
 use Rattle.orderbook.specs.Apply.{applied}

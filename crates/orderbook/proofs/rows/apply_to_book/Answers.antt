@@ -1,6 +1,5 @@
 -- `rows::apply_to_book` meets its contract: the step of a delta that is admitted is done on its own side's rows.
 use mathlib.Core.Path.{◌≡◌}
-use borrow.Author.Rules.{rules}
 use Rattle.types.specs.declared.Side.{Side}
 use Rattle.types.specs.declared.Side.TheVariants.{Bid, Ask}
 use Rattle.changes.specs.Inner.Edits.{EditFits, edit_of}

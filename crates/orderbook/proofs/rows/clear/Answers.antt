@@ -1,5 +1,4 @@
 -- `rows::clear` meets its contract: of a book the rows of the empty one are left, and rows that make no book are left as they were.
-use borrow.Author.Rules.{rules}
 use Rattle.types.proofs.Booleans.{passed, failed}
 use Rattle.orderbook.specs.Apply.{cleared}
 use Rattle.orderbook.proofs.rows.clear.Goals as goal

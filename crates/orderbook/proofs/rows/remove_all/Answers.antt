@@ -1,6 +1,4 @@
 -- `rows::remove_all` meets its contract: one side's rows become empty, and rows that make no book are left as they were.
-use borrow.Author.Rules.{rules}
-use mathlib.Core.Logic.{⊎_elim}
 use Rattle.types.proofs.Booleans.{passed, failed}
 use Rattle.orderbook.specs.Apply.{side_cleared}
 use Rattle.orderbook.proofs.rows.remove_all.Goals as goal

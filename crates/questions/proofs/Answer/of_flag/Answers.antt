@@ -1,5 +1,4 @@
 -- `questions::Answer::of_flag` meets its contract: a flag stays a flag, and a refusal a refusal.
-use borrow.Author.Rules.{rules}
 use Rattle.questions.proofs.Answer.of_flag.Goals as goal
 
 pub returns-in-Is : goal.returns-in-Is

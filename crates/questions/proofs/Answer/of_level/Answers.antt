@@ -1,5 +1,4 @@
 -- `questions::Answer::of_level` meets its contract: a level stays a level, and a refusal a refusal.
-use borrow.Author.Rules.{rules}
 use Rattle.questions.proofs.Answer.of_level.Goals as goal
 
 pub returns-in-Is : goal.returns-in-Is

@@ -1,5 +1,4 @@
 -- `questions::Answer::of_number` meets its contract: a number stays a number, and a refusal a refusal.
-use borrow.Author.Rules.{rules}
 use Rattle.questions.proofs.Answer.of_number.Goals as goal
 
 pub returns-in-Is : goal.returns-in-Is

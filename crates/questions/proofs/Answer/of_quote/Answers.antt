@@ -1,5 +1,4 @@
 -- `questions::Answer::of_quote` meets its contract: a quote stays a quote, and a refusal a refusal.
-use borrow.Author.Rules.{rules}
 use Rattle.questions.proofs.Answer.of_quote.Goals as goal
 
 pub returns-in-Is : goal.returns-in-Is

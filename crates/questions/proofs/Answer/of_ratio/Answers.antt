@@ -1,5 +1,4 @@
 -- `questions::Answer::of_ratio` meets its contract: a ratio stays a ratio, and a refusal a refusal.
-use borrow.Author.Rules.{rules}
 use Rattle.questions.proofs.Answer.of_ratio.Goals as goal
 
 pub returns-in-Is : goal.returns-in-Is

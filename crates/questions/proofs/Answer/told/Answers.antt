@@ -1,5 +1,4 @@
 -- `Answer::told` meets its contract: each answer is told as its kind is.
-use borrow.Author.Rules.{rules}
 use Rattle.questions.proofs.Answer.told.Goals as goal
 
 pub returns-in-Number : goal.returns-in-Number

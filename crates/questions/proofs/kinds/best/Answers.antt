@@ -1,6 +1,5 @@
 -- `kinds::best` meets its contract: the side's best level answers, and 1 of a record that is no book.
 use mathlib.Core.Path.{◌≡◌, ap}
-use borrow.Author.Rules.{rules}
 use Rattle.types.proofs.Booleans.{failed}
 use Rattle.levels.specs.declared.Levels.{Levels}
 use Rattle.levels.specs.Table.{rows, levels}

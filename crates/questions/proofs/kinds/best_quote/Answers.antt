@@ -1,5 +1,4 @@
 -- `kinds::best_quote` meets its contract: both best levels, and 1 of a record that is no book.
-use borrow.Author.Rules.{rules}
 use Rattle.types.specs.declared.Side.TheVariants.{Bid, Ask}
 use Rattle.types.proofs.Booleans.{failed}
 use Rattle.orderbook.specs.Lent.{book_at}

@@ -1,7 +1,6 @@
 -- `kinds::flag` meets its contract: each question is answered by the function of its clause, and 1 answers of a record that is no book.
 use mathlib.Core.Path.{◌≡◌, sym, ap}
 use native.Mathlib.Omega.{arith}
-use borrow.Author.Rules.{rules}
 use Rattle.types.specs.declared.Side.TheVariants.{Bid, Ask}
 use Rattle.types.proofs.Booleans.{failed}
 use Rattle.levels.specs.declared.Levels.{Levels}

@@ -1,6 +1,5 @@
 -- `kinds::side_number` meets its contract: the side's rows are handed on, and 1 answers of a record that is no book.
 use mathlib.Core.Path.{◌≡◌, sym, ap, ◌∙◌}
-use borrow.Author.Rules.{rules}
 use Rattle.types.proofs.Booleans.{failed}
 use Rattle.levels.specs.declared.Levels.{Levels}
 use Rattle.levels.specs.Table.{rows, levels}

@@ -1,6 +1,5 @@
 -- `kinds::top_ratio` meets its contract: a book's best levels are apart and within the limits, and 1 answers of a record that is no book.
 use mathlib.Core.Path.{sym}
-use borrow.Author.Rules.{rules}
 use Rattle.types.specs.declared.Side.TheVariants.{Bid, Ask}
 use Rattle.types.proofs.Booleans.{failed}
 use Rattle.orderbook.specs.Lent.{book_at}

@@ -1,6 +1,5 @@
 -- `kinds::trade_price` meets its contract: the rows of the side that the trade walks are handed on, and 1 answers of a record that is no book.
 use mathlib.Core.Path.{◌≡◌, sym, ap, ◌∙◌}
-use borrow.Author.Rules.{rules}
 use Rattle.types.proofs.Booleans.{failed}
 use Rattle.types.specs.declared.Side.{Side}
 use Rattle.levels.specs.declared.Levels.{Levels}

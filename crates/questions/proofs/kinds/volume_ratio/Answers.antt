@@ -1,6 +1,5 @@
 -- `kinds::volume_ratio` meets its contract: the totals of the levels that it takes are handed on, and 1 answers of a record that is no book.
 use mathlib.Core.Path.{sym}
-use borrow.Author.Rules.{rules}
 use Rattle.types.specs.declared.Side.TheVariants.{Bid, Ask}
 use Rattle.types.proofs.Booleans.{failed}
 use Rattle.orderbook.specs.Lent.{book_at}

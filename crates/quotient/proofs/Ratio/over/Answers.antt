@@ -1,6 +1,5 @@
 -- `quotient::Ratio::over` meets its contract: one law for each answer.
 use mathlib.Core.Path.{sym}
-use borrow.Author.Rules.{rules}
 use Rattle.quotient.proofs.Overs.{over_none, over_some}
 use Rattle.quotient.proofs.Ratio.over.Goals as goal
 

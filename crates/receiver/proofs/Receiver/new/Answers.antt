@@ -1,5 +1,4 @@
 -- `Receiver::new` meets its contract: the book is the empty one.
-use borrow.Author.Rules.{rules}
 use Rattle.receiver.proofs.Receiver.new.Goals as goal
 
 pub returns : goal.returns

@@ -1,5 +1,4 @@
 -- `receiver::rows::loads` meets its contract: each state has its own test.
-use borrow.Author.Rules.{rules}
 use Rattle.receiver.proofs.rows.loads.Goals as goal
 
 pub returns-in-Waiting : goal.returns-in-Waiting

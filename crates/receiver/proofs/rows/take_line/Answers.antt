@@ -1,8 +1,6 @@
 -- `receiver::rows::take_line` meets its contract: rows that make no book are left, and a line's turn is that of what it reads as.
-use mathlib.Core.Bool.{true}
-use mathlib.Core.Path.{◌≡◌, sym, ◌∙◌}
+use mathlib.Core.Path.{sym, ◌∙◌}
 use Rattle.types.proofs.Booleans.{passed, failed}
-use Rattle.orderbook.specs.Book.{is_book}
 use Rattle.orderbook.specs.Apply.{change_of}
 use Rattle.frames.proofs.Reading.{read_fits}
 use Rattle.receiver.specs.Lent.{receiver_at}

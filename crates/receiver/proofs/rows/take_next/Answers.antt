@@ -1,6 +1,5 @@
 -- `receiver::rows::take_next` meets its contract: the turn is that of what the book makes of the delta.
 use mathlib.Core.Path.{refl}
-use borrow.Author.Rules.{rules}
 use Rattle.orderbook.specs.Lent.{book_at}
 use Rattle.receiver.specs.declared.Receiver.{Receiver}
 use Rattle.receiver.specs.declared.State.TheVariants.{Live}

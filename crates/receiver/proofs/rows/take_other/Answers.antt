@@ -1,6 +1,5 @@
 -- `receiver::rows::take_other` meets its contract: a snapshot is loaded or old, and a refusal is handed on.
 use mathlib.Core.Path.{sym, ◌∙◌}
-use borrow.Author.Rules.{rules}
 use Rattle.orderbook.specs.Lent.{book_at}
 use Rattle.receiver.specs.declared.Receiver.{Receiver}
 use Rattle.receiver.proofs.Turns.{loaded_turn, old_snapshot}

@@ -1,5 +1,4 @@
 -- `gate::gated` meets its contract: each state has its own gate.
-use borrow.Author.Rules.{rules}
 use Rattle.receiver_questions.specs.Gate.{gate}
 use Rattle.receiver_questions.proofs.gate.gated.Goals as goal
 

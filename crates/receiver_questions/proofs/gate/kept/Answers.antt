@@ -1,5 +1,4 @@
 -- `gate::kept` meets its contract: 1 and 2 are at most 2, and every other number is greater.
-use borrow.Author.Rules.{rules}
 use Rattle.receiver_questions.proofs.Gates.{later}
 use Rattle.receiver_questions.proofs.gate.kept.Goals as goal
 

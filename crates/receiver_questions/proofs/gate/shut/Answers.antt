@@ -1,5 +1,4 @@
 -- `gate::shut` meets its contract: no value passes, and a refusal is the one kept.
-use borrow.Author.Rules.{rules}
 use Rattle.receiver_questions.proofs.Gates.{valued, kept_passes}
 use Rattle.receiver_questions.proofs.gate.shut.Goals as goal
 

@@ -1,5 +1,4 @@
 -- `gate::shut_number` meets its contract: no number passes, and a refusal is the one kept.
-use borrow.Author.Rules.{rules}
 use Rattle.receiver_questions.specs.Gate.{shut}
 use Rattle.receiver_questions.proofs.Gates.{kept_passes}
 use Rattle.receiver_questions.proofs.gate.shut_number.Goals as goal

@@ -1,6 +1,5 @@
 -- `sides::top::best_level` meets its contract: the level that the best is, else 10.
 use mathlib.Core.Path.{sym}
-use borrow.Author.Rules.{rules}
 use Rattle.sides.proofs.Bests.{level_some, level-none}
 use Rattle.sides.proofs.top.best_level.Goals as goal
 

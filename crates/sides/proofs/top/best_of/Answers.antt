@@ -1,6 +1,5 @@
 -- `sides::top::best_of` meets its contract: the best level of rows is their first place, if one is used.
 use mathlib.Core.Path.{sym}
-use borrow.Author.Rules.{rules}
 use Rattle.sides.proofs.Bests.{rows-first, rows_nowhere}
 use Rattle.sides.proofs.top.best_of.Goals as goal
 

@@ -1,7 +1,4 @@
 -- `sides::top::best_quantity` meets its contract: the quantity of the level that the best is, else 10.
-use mathlib.Core.Path.{sym, ap}
-use borrow.Author.Rules.{rules}
-use Rattle.types.specs.Replies.{map_reply}
 use Rattle.sides.proofs.Bests.{level_some, level-none}
 use Rattle.sides.proofs.top.best_quantity.Goals as goal
 

@@ -1,6 +1,5 @@
 -- `sides::top::best_quote` meets its contract: both best levels, else 10.
 use mathlib.Core.Path.{sym}
-use borrow.Author.Rules.{rules}
 use Rattle.sides.specs.Questions.{quote_of}
 use Rattle.sides.proofs.Bests.{both, no_bid, no_ask}
 use Rattle.sides.proofs.top.best_quote.Goals as goal

@@ -1,6 +1,5 @@
 -- `sides::top::is_apart` meets its contract: an empty side is apart from any, and two best levels are as their prices are.
 use mathlib.Core.Path.{sym}
-use borrow.Author.Rules.{rules}
 use Rattle.sides.proofs.Bests.{apart_is, apart_no_bid, apart_no_ask}
 use Rattle.sides.proofs.top.is_apart.Goals as goal
 

@@ -1,7 +1,6 @@
 -- `sides::top::mid_price` meets its contract: the sum over 2, else 10.
 use mathlib.Core.Path.{sym}
 use native.Mathlib.Omega.{arith}
-use borrow.Author.Rules.{rules}
 use Rattle.quotient.proofs.Overs.{over_some}
 use Rattle.sides.specs.Questions.{mid_of}
 use Rattle.sides.proofs.Bests.{both, no_bid, no_ask}

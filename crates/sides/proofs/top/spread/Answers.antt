@@ -1,7 +1,6 @@
 -- `sides::top::spread` meets its contract: the ask less the bid, which is not above it, else 10.
 use mathlib.Core.Path.{sym}
 use native.Mathlib.Omega.{arith}
-use borrow.Author.Rules.{rules}
 use Rattle.sides.specs.Questions.{spread_of}
 use Rattle.sides.proofs.Bests.{both, no_bid, no_ask, apart_below}
 use Rattle.sides.proofs.top.spread.Goals as goal

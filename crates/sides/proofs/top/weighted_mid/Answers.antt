@@ -2,7 +2,6 @@
 use Prim.Native.Nat.{◌+◌, ◌*◌, ◌≤◌}
 use mathlib.Core.Path.{sym}
 use native.Mathlib.Omega.{arith}
-use borrow.Author.Rules.{rules}
 use Rattle.sides.specs.Questions.{weighted_mid_of}
 use Rattle.sides.proofs.Bests.{both, no_bid, no_ask, weighed_small}
 use Rattle.sides.proofs.top.weighted_mid.Goals as goal

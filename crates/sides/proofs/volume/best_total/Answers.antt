@@ -1,6 +1,5 @@
 -- `sides::volume::best_total` meets its contract: the sum of the first k places, or of all that are used.
 use native.Mathlib.Omega.{arith}
-use borrow.Author.Rules.{rules}
 use Rattle.sides.proofs.Volumes.{part_total, all-total}
 use Rattle.sides.proofs.volume.best_total.Goals as goal
 

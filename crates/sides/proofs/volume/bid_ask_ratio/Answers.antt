@@ -1,5 +1,4 @@
 -- `sides::volume::bid_ask_ratio` meets its contract: a zero bid gives 10, any other the ratio.
-use borrow.Author.Rules.{rules}
 use borrow.Author.Tests.{eq-eqb, ne_eqb}
 use Rattle.sides.proofs.volume.bid_ask_ratio.Goals as goal
 

@@ -1,5 +1,4 @@
 -- `sides::volume::imbalance` meets its contract: the difference over the sum, each within an i64.
-use borrow.Author.Rules.{rules}
 use Rattle.sides.proofs.volume.imbalance.Goals as goal
 
 pub returns : goal.returns

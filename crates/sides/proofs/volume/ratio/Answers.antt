@@ -1,5 +1,4 @@
 -- `sides::volume::ratio` meets its contract: the one over the other.
-use borrow.Author.Rules.{rules}
 use Rattle.sides.proofs.volume.ratio.Goals as goal
 
 pub returns : goal.returns

@@ -1,5 +1,4 @@
 -- `sides::volume::skew` meets its contract: the bid over the sum of both.
-use borrow.Author.Rules.{rules}
 use Rattle.sides.proofs.volume.skew.Goals as goal
 
 pub returns : goal.returns
