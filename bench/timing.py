@@ -14,7 +14,7 @@ def program(name):
     if made.returncode != 0:
         sys.exit(f"There is no program {name} to time.")
     path = Path(made.stdout.strip())
-    if platform.machine() != "x86_64" and path == ROOT / "target/bin" / name:
+    if platform.machine() != "x86_64" and path.parent.name == "x86_64":
         sys.exit("That program is for x86-64, and its time under an emulator says nothing.")
     return path
 

@@ -22,13 +22,14 @@ runner() {
   local machine tools
   machine=$(uname -m)
   case $machine:$1 in
-    x86_64:*/bin/* | aarch64:*/aarch64/*) run=("$1") ;;
+    x86_64:*/x86_64/* | aarch64:*/aarch64/*) run=("$1") ;;
     *:*/aarch64/*) run=(qemu-aarch64 "$1") ;;
     *)
-      # the program for x86-64, elsewhere: the toolchain has an emulator
-      command -v rt >/dev/null || { say "the program is for x86-64, and the emulator comes with the Rattle toolchain (rt), which is not on the path"; exit 1; }
-      tools=$(dirname "$(readlink -f "$(command -v rt)")")/../on/$machine/toolchain
-      run=("$tools/bin/qemu-x86_64" "$tools/lib/ld-linux-x86-64.so.2" --library-path "$tools/lib" "$1")
+      # the program for x86-64, elsewhere: an emulator, and the toolchain's C library
+      command -v qemu-x86_64 >/dev/null || { say "the program is for x86-64, and there is no qemu-x86_64 to emulate it (Debian: qemu-user)"; exit 1; }
+      command -v rt >/dev/null || { say "the program is for x86-64, and its C library comes with the Rattle toolchain (rt), which is not on the path"; exit 1; }
+      tools=$(readlink -f "$(dirname "$(readlink -f "$(command -v rt)")")/../toolchain/lib")
+      run=(qemu-x86_64 "$tools/ld-linux-x86-64.so.2" --library-path "$tools" "$1")
       ;;
   esac
 }

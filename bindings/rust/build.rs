@@ -48,8 +48,17 @@ fn machine() -> Result<String, String> {
 fn made() -> Result<PathBuf, String> {
     let root = folder("CARGO_MANIFEST_DIR").join("../..");
     let root = root.canonicalize().unwrap_or(root);
-    for source in ["crates", "crates.txt", "bindings/archive", "bindings/native.sh", "bindings/needs.sh"] {
+    for source in ["crates.txt", "bindings/archive", "bindings/native.sh", "bindings/needs.sh"] {
         println!("cargo:rerun-if-changed={}", root.join(source).display());
+    }
+    // Not the crates' folders whole: the toolchain writes beside the sources.
+    for folder in root.join("crates").read_dir().into_iter().flatten().flatten() {
+        for part in ["src", "specs", "proofs"] {
+            let sources = folder.path().join(part);
+            if sources.is_dir() {
+                println!("cargo:rerun-if-changed={}", sources.display());
+            }
+        }
     }
     let script = root.join("bindings/archive");
     let ran = Command::new(&script).arg(machine()?).output();
