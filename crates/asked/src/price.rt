@@ -67,6 +67,7 @@ pub fn impact<'a>(
     price_or(prices, quantities, n, target, Refusal::NoValue)
 }
 
+#[tactic(auto, using(crate::proofs::Prices::volume_limit))]
 pub fn volume_price<'a>(
     prices: &'a [u32; 128],
     quantities: &'a [u32; 128],

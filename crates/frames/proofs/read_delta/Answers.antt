@@ -1,4 +1,5 @@
 -- `frames::read_delta` meets its contract: the line is a delta's if its digits are those of its bytes, and these are a whole delta's.
+use native.Mathlib.Omega.{arith}
 use mathlib.Core.Bool.{not, false≢true}
 use mathlib.Core.Path.{◌≡◌, refl, sym, ap, ◌∙◌}
 use mathlib.Core.List.{List, append-nil}
@@ -49,7 +50,7 @@ returns-then-is_whole c =
     let long : length l ≡ 41 = c.if-line-ne41.false in
     let inside : c.delta_in-d.result ≡ delta_in l = c.delta_in-d.ensures ∙ ap delta_of spelt ∙ in_bytes l long in
     let t = sym (ap is_delta spelt) ∙ passed c.is_delta.ensures c.if-not-is_delta.false-raw in
-    let own = its_line l long t (r.own (passed refl c.if-not-read_bytes.false-raw)) c.if-line-ne10.false in
+    let own = its_line l long t (r.own (passed refl c.if-not-read_bytes.false-raw)) (omega arith) in
     delta_read_lem l c.delta_in-d.result inside (sym c.is_whole.ensures ∙ c.if-is_whole.true)
     (ap (λ (x : BookDelta). same l (encode (delta x))) inside ∙ ap (same l) (sym own) ∙ same_self l)
 

@@ -15,7 +15,7 @@ pub returns-then-out-lt41 : goal.returns-then-out-lt41
 returns-then-out-lt41 c =
     let a = c.args in
     no_room (delta_line a.d) a.out.now (encode (delta (as_sent a.d))) (delta-line a.d (sym c.delta_fits.ensures ∙ c.if-delta_fits.true))
-    (omega (arith, delta-length (as_sent a.d), c.if-out-lt41.true))
+    (omega (arith, delta-length (as_sent a.d)))
 
 pub returns-then-delta_fits : goal.returns-then-delta_fits
 returns-then-delta_fits c =
@@ -25,7 +25,7 @@ returns-then-delta_fits c =
     let p = c.put_delta in
     all-written (delta_line a.d) a.out.now (encode (delta (as_sent a.d))) p.new.out 41
     (delta-line a.d (sym f.ensures ∙ c.if-delta_fits.true)) (delta-length (as_sent a.d))
-    (omega (arith, c.if-out-lt41.false))
+    (omega arith)
     (p.ensures ∙ ap (λ (d : BookDelta). encode (delta d) ++ drop 41 a.out.now) s.ensures)
 
 pub returns : goal.returns

@@ -7,12 +7,12 @@ use Rattle.streams.proofs.line_end.Goals as goal
 pub returns-then-s-i-eq10 : goal.returns-then-s-i-eq10
 returns-then-s-i-eq10 c =
     let l = c.loop-i in
-    sym (l.invariant.1 ∙ end_here c.args.s.now l.i (omega arith) c.if-s-i-eq10.true)
+    sym (l.invariant.1 ∙ end_here c.args.s.now l.i (omega arith) (omega arith))
 
 pub loop-i-preserved : goal.loop-i-preserved
 loop-i-preserved c =
     let l = c.loop-i in
-    (omega arith, l.invariant.1 ∙ end_on c.args.s.now l.i (omega arith) c.if-s-i-eq10.false)
+    (omega arith, l.invariant.1 ∙ end_on c.args.s.now l.i (omega arith) (λ e. omega arith))
 
 pub returns : goal.returns
 returns c = let l = c.loop-i in sym (l.invariant.1 ∙ end_last c.args.s.now l.i (omega arith))

@@ -28,7 +28,7 @@ pub returns-then-out-n : goal.returns-then-out-n
 returns-then-out-n c =
     let a = c.args in
     let b = book_at a.bp.now a.bq.now a.ap.now a.aq.now a.counts in
-    let is = sym c.is_book.ensures.0 ∙ c.if-is_book.true in
+    let is : is_book b ≡ true = cc c.is_book.ensures.0 in
     no_room (snapshot_line b) a.out.now (encode (snapshot (snapshot_of b))) (snapshot_line_lem b is)
     (omega (arith, long b c.is_book.ensures.1 is, c.if-out-n.true))
 
@@ -36,7 +36,7 @@ pub returns-then-is_book : goal.returns-then-is_book
 returns-then-is_book c =
     let a = c.args in
     let b = book_at a.bp.now a.bq.now a.ap.now a.aq.now a.counts in
-    let is = sym c.is_book.ensures.0 ∙ c.if-is_book.true in
+    let is : is_book b ≡ true = cc c.is_book.ensures.0 in
     let l = encode (snapshot (snapshot_of b)) in
     let n = long b c.is_book.ensures.1 is in
     all-written (snapshot_line b) a.out.now l c.put_snapshot.new.out (25 + 16 * (b.bids.count + b.asks.count))

@@ -22,13 +22,13 @@ returns-then-delta-counts c =
 pub returns-then-delta-counts-gt1 : goal.returns-then-delta-counts-gt1
 returns-then-delta-counts-gt1 c =
     let a = c.args in
-    sym (gap-turn (receiver_at a.bp.now a.bq.now a.ap.now a.aq.now a.state a.counts) a.delta c.in-Live.is (omega (arith, c.if-delta-counts.false, c.if-delta-counts-gt1.true)))
+    sym (gap-turn (receiver_at a.bp.now a.bq.now a.ap.now a.aq.now a.state a.counts) a.delta c.in-Live.is (omega arith))
 
 pub returns : goal.returns
 returns c =
     let a = c.args in
     let r = receiver_at a.bp.now a.bq.now a.ap.now a.aq.now a.state a.counts in
-    let next : a.delta.sequence ≡ held r + 1 = omega (arith, c.if-delta-counts.false, c.if-delta-counts-gt1.false) in
+    let next : a.delta.sequence ≡ held r + 1 = omega arith in
     c.take_next.ensures
     ∙ next_any Live a.state r.book (applied r.book a.delta).reply (applied r.book a.delta).book
     ∙ sym (next-turn r a.delta c.in-Live.is next)
@@ -37,5 +37,5 @@ pub take_next-requires : goal.take_next-requires
 take_next-requires c =
     let a = c.args in
     let r = receiver_at a.bp.now a.bq.now a.ap.now a.aq.now a.state a.counts in
-    let next : a.delta.sequence ≡ held r + 1 = omega (arith, c.if-delta-counts.false, c.if-delta-counts-gt1.false) in
+    let next : a.delta.sequence ≡ held r + 1 = omega arith in
     (c.requires.0, c.requires.1, next_admitted r a.delta c.requires.2 (omega (arith, next)) next)
