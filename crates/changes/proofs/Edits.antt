@@ -106,7 +106,7 @@ module _ (s : Side) (l : PriceLevel) (ls : List PriceLevel) where
   remove_list : (p : ℕ) → length ls ≤ max_levels → in_order s (prices_of ls) ≡ true → edited (out_edit (place_on s p (table ls))) l (table ls) ≡ table (remove_level p ls)
   remove_list p few o = rw (remove_place s p ls o, ← on_list s p ls) (out_table l ls (place_on s p (table ls)) (in_list s p ls) few)
 
--- a well_formed_lem table, which is the table of its levels
+-- a well-formed table, which is the table of its levels
 module _ (s : Side) (t : Levels) (w : Sized t) (f : Formed s t) (l : PriceLevel) where
   back : table (levels t) ≡ t
   back = table-back s t w f

@@ -1,4 +1,4 @@
--- A table and its list of levels: what a well_formed_lem table has, and how each is found again from the other.
+-- A table and its list of levels: what a well-formed table has, and how each is found again from the other.
 use Prim.Native.Nat.{ℕ, zero, suc, ◌+◌, ◌≤◌, ◌<◌}
 use native.Mathlib.Omega.{arith}
 use mathlib.Core.Path.{◌≡◌, refl, ap, sym, ◌∙◌}

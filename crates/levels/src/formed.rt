@@ -1,4 +1,4 @@
-// Whether two rows and a count are a well_formed_lem side. This test comes before every answer, so each loop has the shape that compiles to the
+// Whether two rows and a count are a well-formed side. This test comes before every answer, so each loop has the shape that compiles to the
 // fewest instructions a place: a count, or all bits laid over each other, and never a way out of the loop.
 ghost use Rattle.std.specs.Prelude.{◌≡◌, true, ◌&&◌, map, ◌≤◌, ◌<◌, ◌^◌, eqb, length, take, drop};
 ghost use Rattle.std.specs.Int.Bits.{bit_xor};
@@ -155,7 +155,7 @@ fn unused_are_zero<'a>(prices: &'a [u32; 128], quantities: &'a [u32; 128], n: us
     bits == 0
 }
 
-// Whether the rows and the count are a well_formed_lem side.
+// Whether the rows and the count are a well-formed side.
 pub fn well_formed<'a>(
     side: Side,
     prices: &'a [u32; 128],

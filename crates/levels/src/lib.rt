@@ -8,7 +8,7 @@ ghost use Rattle.levels.specs.Inner.Found.{ahead_in, reached_in};
 ghost use Rattle.levels.specs.Table.{table};
 
 pub mod search; // search.rt: which price comes first, and where a price stands or belongs
-pub mod formed; // formed.rt: whether two rows and a count are a well_formed_lem side
+pub mod formed; // formed.rt: whether two rows and a count are a well-formed side
 
 #[repr(C)]
 #[derive(Clone, Copy)]

@@ -1,5 +1,5 @@
--- The calls of crate day: fills lent as records, the wrapper that others call, and fills lent as numbers. The first is proved by hand, so there is no `Learnt` of
--- it: its promise is written out here, and `told` says that it is the one in the source.
+-- The calls of crate day: fills lent as records, the wrapper that others call, and fills lent as numbers. The promise of the first
+-- is written out here, and `told` says that it is the one in the source.
 use Rattle.std.specs.Prelude.{◌≡◌, refl}
 use Rattle.std.proofs.Common.{ap, sym, ◌∙◌}
 use seplogic.Ra.Ura.{Ura}

@@ -1,5 +1,5 @@
--- The calls of crate lent: a delta over a record that is lent, and the wrapper that others call. The first is proved by hand, so there is no `Learnt` of it: its promise is written out here,
--- and `told` says that it is the one in the source.
+-- The calls of crate lent: a delta over a record that is lent, and the wrapper that others call. The promise of the first is written out here, and
+-- `told` says that it is the one in the source.
 use Rattle.std.specs.Prelude.{◌≡◌, refl}
 use Rattle.std.proofs.Common.{ap, sym, ◌∙◌}
 use seplogic.Ra.Ura.{Ura}

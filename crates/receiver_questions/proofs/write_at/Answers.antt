@@ -8,4 +8,4 @@ returns-in_default c = waiting-left _ _ _ c.in_default.is _ c.places_at.ensures
 
 pub returns : goal.returns
 returns c = let live = c in
-    c.write_at.ensures ∙ live_left _ live.args.out.now _ live.in-Live.is
+    c.write_at.ensures ∙ live_left _ live.args.out.now _ (cc)
