@@ -82,7 +82,7 @@ def in_place(text, clang, target, shape):
     made = run(clang, f"--target={target}", "-O1", "-Xclang", "-disable-llvm-passes", f"-DSHAPE={shape}", "-S", "-emit-llvm", "-o", "-", f"{ROOT}/bench/search/shapes.c")
     made = re.sub(r"^(source_filename|target|attributes|!|; |declare ).*\n", "", made, flags=re.M)
     made = re.sub(r"^ *call void @llvm\.lifetime.*\n", "", made, flags=re.M)
-    made = re.sub(r", !(tbaa|llvm\.loop)( !\d+)?| #\d+|dso_local ", "", made).replace("@count_ahead(", f"@{PROVED}(")
+    made = re.sub(r", !(tbaa|llvm\.loop)( !\d+)?| #\d+|dso_local |zeroext ", "", made).replace("@count_ahead(", f"@{PROVED}(")
     made = re.sub(r"^define (?!internal)", "define internal ", made, flags=re.M)
     rest, taken = re.subn(r"^define [^\n]*@" + re.escape(PROVED) + r"\(.*?^}\n", "", text, flags=re.M | re.S)
     if taken != 1:
