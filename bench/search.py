@@ -14,10 +14,10 @@ import re
 import shutil
 import subprocess
 import sys
+import tempfile
 
 ROOT = os.path.dirname(os.path.dirname(os.path.abspath(__file__)))
 WORK = os.path.join(ROOT, "target", "bench", "search")
-KEPT = os.path.join(ROOT, "target", "native", "exports")
 PROVED = '"levels::search::count_ahead"'
 SHAPES = [
     "every place, a loop a side",
@@ -36,20 +36,45 @@ def run(*words, **more):
     return subprocess.run(words, check=True, text=True, stdout=subprocess.PIPE, **more).stdout
 
 
-def tools():
-    """The toolchain's programs for this machine."""
-    rt = os.path.realpath(shutil.which("rt") or sys.exit("bench/search.py: rt, the command of the Rattle toolchain, is not on the path"))
-    kit = os.environ.get("RATTLE_HOME", os.path.dirname(os.path.dirname(rt)))
-    return os.path.join(kit, "on", platform.machine(), "toolchain", "bin")
+def toolchain():
+    """The folder of the Rattle toolchain."""
+    rt = shutil.which("rt") or sys.exit("bench/search.py: rt, the command of the Rattle toolchain, is not on the path")
+    return os.path.dirname(os.path.dirname(os.path.realpath(rt)))
 
 
-def module(clang, processor):
+def link_all(source, to, but=()):
+    os.makedirs(to)
+    for name in os.listdir(source):
+        if name not in but:
+            os.symlink(os.path.join(source, name), os.path.join(to, name))
+
+
+def watching(kit, to, kept):
+    """Lays out a toolchain like kit in the folder to, but that its clang puts the module that it is handed aside, as kept. rt finds the rest from where it stands."""
+    link_all(kit, to, ("bin", "toolchain"))
+    link_all(f"{kit}/bin", f"{to}/bin", ("rt", "rtlib.py"))
+    for name in ("rt", "rtlib.py"):
+        shutil.copy(f"{kit}/bin/{name}", f"{to}/bin/{name}")
+    link_all(f"{kit}/toolchain", f"{to}/toolchain", ("bin",))
+    link_all(f"{kit}/toolchain/bin", f"{to}/toolchain/bin", ("clang",))
+    with open(f"{to}/toolchain/bin/clang", "w") as file:
+        file.write(f"""#!/bin/sh
+for word in "$@"; do
+  case $word in *.bc) cp "$word" "{kept}" ;; esac
+done
+exec "{kit}/toolchain/bin/clang" "$@"
+""")
+    os.chmod(f"{to}/toolchain/bin/clang", 0o755)
+
+
+def module(kit, clang, processor):
     """The library's module as text, for that processor."""
     run("bash", os.path.join(ROOT, "bindings", "archive"), processor)
-    if processor == "aarch64":
-        with open(os.path.join(KEPT, "turned.ll")) as file:
-            return file.read()
-    return run(clang, "--target=x86_64-unknown-linux-gnu", "-x", "ir", os.path.join(KEPT, "module.bc"), "-S", "-emit-llvm", "-O0", "-o", "-")
+    kept = os.path.join(WORK, "module.bc")
+    with tempfile.TemporaryDirectory() as folder:
+        watching(kit, f"{folder}/kit", kept)
+        run(f"{folder}/kit/bin/rt", "lib", "--target", f"{processor}-unknown-linux-gnu", cwd=f"{ROOT}/crates/exports_c")
+    return run(clang, f"--target={processor}-unknown-linux-gnu", "-x", "ir", kept, "-S", "-emit-llvm", "-O0", "-o", "-")
 
 
 def in_place(text, clang, target, shape):
@@ -57,7 +82,7 @@ def in_place(text, clang, target, shape):
     made = run(clang, f"--target={target}", "-O1", "-Xclang", "-disable-llvm-passes", f"-DSHAPE={shape}", "-S", "-emit-llvm", "-o", "-", f"{ROOT}/bench/search/shapes.c")
     made = re.sub(r"^(source_filename|target|attributes|!|; |declare ).*\n", "", made, flags=re.M)
     made = re.sub(r"^ *call void @llvm\.lifetime.*\n", "", made, flags=re.M)
-    made = re.sub(r", !(tbaa|llvm\.loop)( !\d+)?| #\d+|dso_local ", "", made).replace("@count_ahead(", f"@{PROVED}(")
+    made = re.sub(r", !(tbaa|llvm\.loop)( !\d+)?| #\d+|dso_local |zeroext ", "", made).replace("@count_ahead(", f"@{PROVED}(")
     made = re.sub(r"^define (?!internal)", "define internal ", made, flags=re.M)
     rest, taken = re.subn(r"^define [^\n]*@" + re.escape(PROVED) + r"\(.*?^}\n", "", text, flags=re.M | re.S)
     if taken != 1:
@@ -107,8 +132,9 @@ def main():
     os.makedirs(WORK, exist_ok=True)
     processor = "x86_64" if counted else platform.machine()
     target, gcc = f"{processor}-unknown-linux-gnu", "gcc" if processor == platform.machine() else f"{processor}-linux-gnu-gcc"
-    clang = os.path.join(tools(), "clang")
-    whole = module(clang, processor)
+    kit = toolchain()
+    clang = os.path.join(kit, "toolchain", "bin", "clang")
+    whole = module(kit, clang, processor)
     alone = [program(f"alone{i}", clang, target, gcc, shape=i) for i in range(len(SHAPES))]
     inside = [program("proved", clang, target, gcc, text=whole)]
     inside += [program(f"inside{i}", clang, target, gcc, text=in_place(whole, clang, target, i)) for i in range(len(SHAPES))]

@@ -68,7 +68,7 @@ lock() {
 
 # Of what rt says: which crate it is at, and what else it says itself.
 progress() {
-  sed -un -e 's/^rt: chose --jobs [0-9]* for \([a-z0-9_]*\)$/rt: \1/p; t' -e '/^rt: .*\(begins with what\|nothing has changed\)/d' -e '/^rt: /p'
+  sed -un -e 's/^rt: chose --jobs [0-9]* for \([a-z0-9_]*\)$/rt: \1/p; t' -e '/^rt: \(.*begins with what\|nothing has changed\|running \|rt check --fix-imports\)/d' -e '/^rt: /p'
 }
 
 by_rt() {

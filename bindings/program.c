@@ -1,8 +1,9 @@
 /* What a program asks of the system beside the C library, for a processor that the Rattle toolchain has no compiled code for: its
-   arguments, a file by name, and errno. The toolchain's declarations of these functions are assumed, here as there; nothing proves this file. */
+   arguments, memory, and errno. The toolchain's declarations of these functions are assumed, here as there; nothing proves this file. */
 #include <errno.h>
-#include <fcntl.h>
+#include <stdbool.h>
 #include <stddef.h>
+#include <stdlib.h>
 #include <string.h>
 #include <sys/types.h>
 
@@ -32,10 +33,39 @@ ssize_t rattle_arg(size_t index, char *buffer, size_t room)
     return length <= room ? (ssize_t)length : -2;
 }
 
-int rattle_open_to_read(const char *path);
-int rattle_open_to_read(const char *path)
+/* Whether there is memory, and where; where there is none, of a byte that is nobody's. */
+struct tried {
+    bool ok;
+    void *p;
+};
+
+static char nothing;
+
+static struct tried tried(void *p)
 {
-    return open(path, O_RDONLY | O_CLOEXEC);
+    struct tried it = {p != NULL, p != NULL ? p : &nothing};
+    return it;
+}
+
+/* Memory of this size, or of the alignment, at most 16, where the size is 0. */
+struct tried rattle_alloc(size_t size, size_t alignment);
+struct tried rattle_alloc(size_t size, size_t alignment)
+{
+    return tried(malloc(size != 0 ? size : alignment));
+}
+
+/* The block made one of this size, perhaps elsewhere; its first `kept` bytes stay as they are. Where that fails, the block is as it was. */
+struct tried rattle_realloc(void *block, size_t kept, size_t size, size_t alignment);
+struct tried rattle_realloc(void *block, size_t kept, size_t size, size_t alignment)
+{
+    (void)kept;
+    return tried(realloc(block, size != 0 ? size : alignment));
+}
+
+void rattle_dealloc(void *block);
+void rattle_dealloc(void *block)
+{
+    free(block);
 }
 
 int rattle_errno(void);

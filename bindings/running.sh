@@ -50,11 +50,11 @@ find_ends() {
   { true 3>&1; } 2>/dev/null || { say "standard output is closed"; exit 1; }
 }
 
-# Says how a program ended that said nothing. Signal 13 ends it where nobody reads any more what it prints: then nobody need be told.
+# Says how a program ended that said nothing.
 say_end() {
   if [ "$1" -le 128 ]; then
     say "the program ended with status $1 and said nothing"
-  elif [ "$1" -ne 141 ]; then
+  else
     say "the program was ended by signal $(($1 - 128))"
   fi
 }
@@ -69,6 +69,10 @@ run_in_words() {
     wait $! || worded=1
   else
     { errors=$("${run[@]}" "$@" 2>&1 1>&3 3>&-) || status=$?; } 3>&1
+  fi
+  # Where nobody reads any more what it prints, nobody need be told.
+  if [ "$errors" = "write: Broken pipe" ] || [ $status -eq 141 ]; then
+    exit 1
   fi
   if [ -n "$errors" ]; then
     say "$errors"

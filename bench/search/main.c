@@ -23,7 +23,7 @@ static double now(void) {
 }
 
 #ifdef ALONE
-unsigned long count_ahead(unsigned char *side, const uint32_t *prices, unsigned long n, uint32_t price);
+unsigned long count_ahead(unsigned char side, const uint32_t *prices, unsigned long n, uint32_t price);
 
 static uint32_t rows[2][128], asked[4096];
 static unsigned char sides[4096];
@@ -42,7 +42,7 @@ static void compare(unsigned levels) {
   for (unsigned i = 0; i < 4096; i += 1) {
     unsigned long ahead = 0;
     for (unsigned k = 0; k < levels; k += 1) ahead += sides[i] ? rows[1][k] < asked[i] : asked[i] < rows[0][k];
-    if (count_ahead(&sides[i], rows[sides[i]], levels, asked[i]) != ahead) {
+    if (count_ahead(sides[i], rows[sides[i]], levels, asked[i]) != ahead) {
       fprintf(stderr, "another count than the definition's, of %u levels\n", levels);
       exit(1);
     }
@@ -54,7 +54,7 @@ static void calls(unsigned levels, unsigned count, int chained) {
   unsigned long answer = 0;
   for (unsigned k = 0; k < count; k += 1) {
     unsigned i = k % 4096;
-    unsigned long given = count_ahead(&sides[i], rows[sides[i]], levels, asked[i] + (uint32_t)(chained ? answer >> 40 : 0));
+    unsigned long given = count_ahead(sides[i], rows[sides[i]], levels, asked[i] + (uint32_t)(chained ? answer >> 40 : 0));
     answer = chained ? given : answer + given;
   }
   volatile unsigned long kept = answer;

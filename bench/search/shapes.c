@@ -51,11 +51,11 @@ static place count_by_halves(const u32 *prices, place n, u32 turn, u32 key) {
 }
 
 // One loop for each side, or one for both.
-#define NAMED(count) (*side ? count(prices, n, ~0u, ~price) : count(prices, n, 0u, price))
-#define TURNED(count) count(prices, n, turn_of(*side), price ^ turn_of(*side))
+#define NAMED(count) (side ? count(prices, n, ~0u, ~price) : count(prices, n, 0u, price))
+#define TURNED(count) count(prices, n, turn_of(side), price ^ turn_of(side))
 static place count_all(const u32 *prices, place n, u32 turn, u32 key) { return count_run(prices, 0, n, turn, key); }
 
-place count_ahead(side_number *side, const u32 *prices, place n, u32 price) {
+place count_ahead(side_number side, const u32 *prices, place n, u32 price) {
 #if SHAPE == 0
   return NAMED(count_all);
 #elif SHAPE == 1
