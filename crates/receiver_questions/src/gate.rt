@@ -40,6 +40,7 @@ fn shut_number(own: Refusal, answer: NumberAnswer) -> NumberAnswer
 }
 
 // What a state leaves of an answer.
+#[tactic(auto, unfolding(crate::specs::Gate::gate))]
 pub(crate) fn gated(state: State, answer: Answer) -> Answer
     ensures { reply_of result ≡ gate state (reply_of answer) }
 {
@@ -49,6 +50,7 @@ pub(crate) fn gated(state: State, answer: Answer) -> Answer
     }
 }
 
+#[tactic(auto, unfolding(crate::specs::Gate::gate))]
 pub(crate) fn gated_number(state: State, answer: NumberAnswer) -> NumberAnswer
     ensures { reply_of_number result ≡ gate state (reply_of_number answer) }
 {
