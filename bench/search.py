@@ -5,7 +5,7 @@
     python3 bench/search.py instructions     instructions on x86-64, counted under an emulator (qemu-user), on any machine
 
 The ways are plain C (bench/search/shapes.c). For the second kind of figure the module that Rattle makes is taken as text, the function
-levels::search::count_ahead is taken out of it and the C one put in, and the toolchain's clang compiles all of it as it does the library. The first
+levels::ordered::Ordered::count_ahead is taken out of it and the C one put in, and the toolchain's clang compiles all of it as it does the library. The first
 row is the module as it is, and the rows "blocks and a run, a loop a side" have its way of searching. Needs the Rattle toolchain and gcc; for instructions also qemu-x86_64 and an x86-64 gcc.
 """
 import os
@@ -18,7 +18,7 @@ import tempfile
 
 ROOT = os.path.dirname(os.path.dirname(os.path.abspath(__file__)))
 WORK = os.path.join(ROOT, "target", "bench", "search")
-PROVED = '"levels::search::count_ahead"'
+PROVED = '"levels::ordered::Ordered::count_ahead"'
 SHAPES = [
     "every place, a loop a side",
     "every place, asks turned",
@@ -82,7 +82,7 @@ def in_place(text, clang, target, shape):
     made = run(clang, f"--target={target}", "-O1", "-Xclang", "-disable-llvm-passes", f"-DSHAPE={shape}", "-S", "-emit-llvm", "-o", "-", f"{ROOT}/bench/search/shapes.c")
     made = re.sub(r"^(source_filename|target|attributes|!|; |declare ).*\n", "", made, flags=re.M)
     made = re.sub(r"^ *call void @llvm\.lifetime.*\n", "", made, flags=re.M)
-    made = re.sub(r", !(tbaa|llvm\.loop)( !\d+)?| #\d+|dso_local |zeroext ", "", made).replace("@count_ahead(", f"@{PROVED}(")
+    made = re.sub(r", !(tbaa|llvm\.loop)( !\d+)?| #\d+|dso_local |zeroext ", "", made).replace("@count_ahead_of(", f"@{PROVED}(")
     made = re.sub(r"^define (?!internal)", "define internal ", made, flags=re.M)
     rest, taken = re.subn(r"^define [^\n]*@" + re.escape(PROVED) + r"\(.*?^}\n", "", text, flags=re.M | re.S)
     if taken != 1:

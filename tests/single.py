@@ -1,5 +1,6 @@
 #!/usr/bin/env python3
-"""Says which public calls have no theorem in crate single: each `pub fn` of a library that is no inner crate, by its path in `.. .Reads.Learnt`.
+"""Says which public calls have no theorem in crate single: each `pub fn` of a library that is no inner crate, and each function of a trait for one
+of its types, by its path in `.. .Reads.Learnt`.
 Of a call that is lent memory to write in, the theorem must be OneWith or OnePart.
 
 No crate can stand on a static library, so crate single has no theorem on one. A static library NAME_c of crates.txt is held to the library NAME instead: each
@@ -16,7 +17,7 @@ ROOT = Path(__file__).resolve().parent.parent
 EXCEPTIONS = {
     ("lent", "apply_delta"): "specs/Lent writes its promise out",
     ("day", "apply_fills"): "specs/Days writes its promise out",
-    ("orderbook", "rows.row_of"): "inner: hands a row on",
+    ("listings", "front"): "inner: asks that an answer's places are in the buffer",
     ("orderbook", "rows.apply_to_book"): "inner: asks that the rows are known to make a book, and that the delta is admitted",
     ("position", "rows.apply_to_ledger"): "inner: asks that the rows are known to make a ledger",
 }
@@ -35,17 +36,38 @@ def crates():
             yield crate, lib.parent
 
 
+def declared(source):
+    """Where each type of a crate is declared: the module and the type, as the theorems name it."""
+    return {name: name if path.stem == "lib" else f"{path.stem}.{name}"
+            for path in sorted(source.glob("*.rt"))
+            for name in re.findall(r"^pub (?:struct|enum|trait) (\w+)", path.read_text(), re.M)}
+
+
+def called(kind):
+    """The name of a type in the name of an impl: `u64` is U64, `()` is Unit."""
+    return "Unit" if kind == "()" else kind[:1].upper() + kind[1:]
+
+
+def of_trait(text):
+    """How the theorems name an impl of a trait: `impl From<Side> for u64` is U64FromSide."""
+    found = re.match(r"impl(?:<[^>]*>)? (\w+)(?:<(\S+)>)? for (\S+) {", text)
+    return found and called(found.group(3)) + found.group(1) + called(found.group(2) or "")
+
+
 def calls(source):
-    """The public functions of a crate: the module or type in front, the name, and whether memory is lent to be written."""
+    """The public functions of a crate, those of traits too: the module or type in front, the name, and whether memory is lent to be written."""
+    types = declared(source)
     for path in sorted(source.glob("*.rt")):
-        module = "" if path.stem == "lib" else path.stem
+        trait, module = None, "" if path.stem == "lib" else path.stem
         lines = path.read_text().split("\n")
         for at, text in enumerate(lines):
-            if re.match(r"impl ", text):
-                module = re.match(r"impl (\w+)", text).group(1)
-            elif re.match(r"}", text) and module[:1].isupper():
-                module = "" if path.stem == "lib" else path.stem
-            found = re.match(r"\s*pub (?:extern \"C\" )?fn (\w+)", text)
+            if re.match(r"impl\b", text):
+                trait = of_trait(text)
+                name = re.match(r"impl(?:<[^>]*>)? (\w+)", text).group(1)
+                module = trait if trait and path.stem == "lib" else f"{path.stem}.{trait}" if trait else types.get(name, name)
+            elif re.match(r"}", text):
+                trait, module = None, "" if path.stem == "lib" else path.stem
+            found = re.match(r"\s*pub (?:extern \"C\" )?fn (\w+)", text) or (trait and re.match(r"    fn (\w+)", text))
             if found:
                 head = "\n".join(lines[at:at + 20]).split("ensures")[0]
                 yield module, found.group(1), "&mut" in head or "&'a mut" in head
@@ -57,7 +79,7 @@ def theorems():
     for path in (ROOT / "crates/single/specs").glob("*.antt"):
         text = path.read_text()
         names = {name: where for where, name in re.findall(r"^use Rattle\.(\S+?) as (\w+)$", text, re.M)}
-        for kind, name, call in re.findall(r"^  pub \S+ : (One\w*) (\w+)\.((?:\w+\.)*)Reads\.Learnt", text, re.M):
+        for kind, name, call in re.findall(r"^  pub \S+ : (One\w*) \(?(\w+)\.((?:\w+\.)*)Reads\.Learnt", text, re.M):
             crate, _, rest = names[name].partition(".proofs")
             said[crate, f"{rest}.{call}".strip(".")] = kind
     return said

@@ -72,3 +72,12 @@ place count_ahead(side_number side, const u32 *prices, place n, u32 price) {
   return TURNED(count_by_halves);
 #endif
 }
+
+// The same as the library hands it on: prices in order, their side before them and their count behind.
+struct ordered {
+  side_number side;
+  const u32 *prices;
+  place count;
+};
+
+place count_ahead_of(const struct ordered *lent, u32 price) { return count_ahead(lent->side, lent->prices, lent->count, price); }

@@ -19,11 +19,12 @@ use Rattle.levels.proofs.Places.{InList, place_in}
 use Rattle.levels.proofs.Found.{reached_few}
 use Rattle.walks.proofs.Walks.{quantities_rows, total-best}
 use Rattle.walks.proofs.Depths as depths
-use Rattle.sides.specs.Inner.Limits.{SideRows}
+use Rattle.levels.specs.declared.lent.SideRows.{SideRows}
+use Rattle.sides.specs.Inner.Limits.{OfBook}
 
 -- a side's rows are lent as the walks ask for them
-pub lent : {p q : List ℕ} {n : ℕ} → SideRows p q n → Lent p q n
-lent w = (w.long_prices, w.long_quantities, w.few)
+pub lent : {r : SideRows} → OfBook r → Lent r.prices.now r.quantities.now r.count
+lent {r} k = (r.long_prices, r.long_quantities, k.few)
 
 -- a price that is found stands at one of the first n places
 pub found_in : (s : Side) (p : List ℕ) (n price i : ℕ) → place_from s price 0 (take n p) ≡ At i → i < n

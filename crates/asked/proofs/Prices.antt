@@ -1,4 +1,6 @@
 -- The price of trading a target and the price reached at a volume: how large the cost gets, and each test that can refuse a volume.
+use Rattle.std.specs.Prelude.{Ok}
+use Rattle.std.specs.Option.{ok_or}
 use Prim.Native.Nat.{ℕ, ◌≤◌, ◌<◌}
 use native.Mathlib.Omega.{arith}
 use mathlib.Core.Path.{◌≡◌}
@@ -10,22 +12,19 @@ use borrow.Author.Tests.{ne_eqb, le-leb, lt-leb}
 use Rattle.types.specs.Limits.{max_quantity, max_volume}
 use Rattle.types.specs.Replies.{done, refused}
 use Rattle.types.specs.declared.PriceLevel.{PriceLevel}
+use Rattle.types.specs.declared.Refusal.{Refusal}
 use Rattle.types.proofs.Booleans.{by}
 use Rattle.levels.specs.Formed.{every, in_limits}
-use Rattle.walks.specs.declared.Filling.TheVariants.{Cost, Short}
 use Rattle.walks.specs.Walk.{total_of, cost_of, fill_of, reach_from}
 use Rattle.walks.proofs.Walks.{cost_limit}
 use Rattle.sides.specs.Questions.{volume_price_of}
 
 module _ (target : ℕ) (ls : List PriceLevel) where
-  -- a target is filled exactly if the levels hold so much, at its cost
-  pub filled : (cost : ℕ) → fill_of target ls ≡ Cost cost → (leb target (total_of ls) ≡ true) × (cost ≡ cost_of target ls)
-  filled cost e =
+  -- a target is filled only if the levels hold so much, at its cost
+  pub filled : (why : Refusal) (cost : ℕ) → Ok cost ≡ ok_or (fill_of target ls) why → (leb target (total_of ls) ≡ true) × (cost ≡ cost_of target ls)
+  filled why cost e =
       by (leb target (total_of ls)) (λ t. let f = rw t at e in (t, cc))
       (λ t. let f = rw t at e in let z : ◌≡◌ {A = ℕ} 0 1 = cc in absurd (omega arith))
-
-  pub unfilled : fill_of target ls ≡ Short → leb target (total_of ls) ≡ false
-  unfilled e = by (leb target (total_of ls)) (λ t. let f = rw t at e in let z : ◌≡◌ {A = ℕ} 0 1 = cc in absurd (omega arith)) (λ t. t)
 
   -- the cost fits an i64
   pub cost_small : every in_limits ls ≡ true → target ≤ max_quantity → cost_of target ls < 9223372036854775808

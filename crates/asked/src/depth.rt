@@ -1,90 +1,63 @@
 // Quantities at a price, up to a price, and how far prices lie apart. A price outside the limits gives 2.
-ghost use Rattle.std.specs.Prelude.{◌≡◌, true, ◌++◌, take};
-ghost use Rattle.levels.specs.Order.{in_order};
-ghost use Rattle.levels.specs.Table.{levels, rows};
-ghost use Rattle.types.specs.Replies.{done};
-ghost use Rattle.types.specs.Answers.{reply_of_number, reply_of_flag};
+ghost use Rattle.std.specs.Prelude.{◌≡◌, ◌++◌, take};
+ghost use Rattle.levels.specs.Table.{levels};
+ghost use Rattle.levels.specs.Lent.{levels_in};
+ghost use Rattle.types.specs.Answers.{reply_of};
 ghost use Rattle.walks.specs.Walk.{gaps_of, least_of};
-ghost use Rattle.sides.specs.Inner.Limits.{SideRows, PricesFit};
+ghost use Rattle.sides.specs.Inner.Limits.{OfSide, PricesFit};
 ghost use Rattle.sides.specs.Questions.{depth_at, has_price, cumulative_depth};
 
-use levels::{Place, search};
-use types::{FlagAnswer, NumberAnswer, Refusal, Side};
+use levels::Place;
+use levels::lent::SideRows;
+use types::{Refusal, Side};
 
-// A number as an answer.
-fn number(x: u32) -> NumberAnswer
-    ensures { reply_of_number result ≡ done x }
-{
-    NumberAnswer::Is(x as u64)
-}
-
-pub fn depth_at<'a>(
-    side: Side,
-    prices: &'a [u32; 128],
-    quantities: &'a [u32; 128],
-    n: usize,
-    price: u32,
-) -> NumberAnswer
-    requires { SideRows prices.now quantities.now n × (in_order side (take n prices.now) ≡ true) }
-    ensures { reply_of_number result ≡ depth_at price (levels (rows prices.now quantities.now n)) }
+pub fn depth_at(side: Side, lent: SideRows<'_>, price: u32) -> Result<u64, Refusal>
+    requires { OfSide side lent }
+    ensures { reply_of result ≡ depth_at price (levels (levels_in lent.entry)) }
 {
     if !types::is_price(price) {
-        return NumberAnswer::Refused(Refusal::OutOfLimits);
+        return Err(Refusal::OutOfLimits);
     }
-    let place = search::find(side, prices, n, price);
+    let place = lent.find(side, price);
     match place {
-        Place::At(i) => number(quantities[i]),
-        Place::Before(_) => NumberAnswer::Refused(Refusal::NoValue),
+        Place::At(i) => Ok(lent.quantities[i] as u64),
+        Place::Before(_) => Err(Refusal::NoValue),
     }
 }
 
-pub fn has_price<'a>(
-    side: Side,
-    prices: &'a [u32; 128],
-    quantities: &'a [u32; 128],
-    n: usize,
-    price: u32,
-) -> FlagAnswer
-    requires { SideRows prices.now quantities.now n × (in_order side (take n prices.now) ≡ true) }
-    ensures { reply_of_flag result ≡ has_price price (levels (rows prices.now quantities.now n)) }
+pub fn has_price(side: Side, lent: SideRows<'_>, price: u32) -> Result<bool, Refusal>
+    requires { OfSide side lent }
+    ensures { reply_of result ≡ has_price price (levels (levels_in lent.entry)) }
 {
     if !types::is_price(price) {
-        return FlagAnswer::Refused(Refusal::OutOfLimits);
+        return Err(Refusal::OutOfLimits);
     }
-    let place = search::find(side, prices, n, price);
-    match place {
-        Place::At(_) => FlagAnswer::Is(true),
-        Place::Before(_) => FlagAnswer::Is(false),
-    }
+    let place = lent.find(side, price);
+    Ok(match place {
+        Place::At(_) => true,
+        Place::Before(_) => false,
+    })
 }
 
-pub fn cumulative_depth<'a>(
-    side: Side,
-    prices: &'a [u32; 128],
-    quantities: &'a [u32; 128],
-    n: usize,
-    price: u32,
-) -> NumberAnswer
-    requires { SideRows prices.now quantities.now n × (in_order side (take n prices.now) ≡ true) }
-    ensures { reply_of_number result ≡ cumulative_depth side price (levels (rows prices.now quantities.now n)) }
+pub fn cumulative_depth(side: Side, lent: SideRows<'_>, price: u32) -> Result<u64, Refusal>
+    requires { OfSide side lent }
+    ensures { reply_of result ≡ cumulative_depth side price (levels (levels_in lent.entry)) }
 {
     if !types::is_price(price) {
-        return NumberAnswer::Refused(Refusal::OutOfLimits);
+        return Err(Refusal::OutOfLimits);
     }
-    let reached = search::find(side, prices, n, price).reached();
-    NumberAnswer::Is(walks::total(quantities, reached))
+    let reached = lent.find(side, price).reached();
+    Ok(walks::total(lent.quantities, reached))
 }
 
-// The smallest gap on either side, of `n` bids and `m` asks; 10 where neither side has two levels.
-pub fn tick_size<'a>(bids: &'a [u32; 128], n: usize, asks: &'a [u32; 128], m: usize) -> NumberAnswer
-    requires { PricesFit bids.now n × PricesFit asks.now m }
-    ensures { reply_of_number result ≡ least_of (gaps_of (take n bids.now) ++ gaps_of (take m asks.now)) }
+// The smallest gap on either side; 10 where neither side has two levels.
+pub fn tick_size(bids: SideRows<'_>, asks: SideRows<'_>) -> Result<u64, Refusal>
+    requires { PricesFit bids × PricesFit asks }
+    ensures { reply_of result ≡ least_of (gaps_of (take bids.entry.count bids.entry.prices.now) ++ gaps_of (take asks.entry.count asks.entry.prices.now)) }
 {
-    if n < 2 {
-        if m < 2 {
-            return NumberAnswer::Refused(Refusal::NoValue);
-        }
+    if bids.count < 2 && asks.count < 2 {
+        return Err(Refusal::NoValue);
     }
-    let least = walks::smallest_gap(bids, n, types::MAX_PRICE);
-    NumberAnswer::Is(walks::smallest_gap(asks, m, least) as u64)
+    let least = walks::smallest_gap(bids.prices, bids.count, types::MAX_PRICE);
+    Ok(walks::smallest_gap(asks.prices, asks.count, least) as u64)
 }

@@ -2,21 +2,21 @@
 // number of one side, a ratio of both best levels, a ratio of both sides' quantities, the price of a trade.
 #![tactic(auto)]
 
-ghost use Rattle.std.specs.Prelude.{◌≡◌, true, ◌≤◌, take};
-ghost use Rattle.types.specs.Answers.{reply_of_number};
-ghost use Rattle.quotient.specs.Over.{reply_of_ratio};
-ghost use Rattle.levels.specs.Order.{in_order};
-ghost use Rattle.levels.specs.Table.{levels, rows};
+ghost use Rattle.std.specs.Prelude.{◌≡◌, true, ◌≤◌};
+ghost use Rattle.types.specs.Answers.{reply_of};
+ghost use Rattle.levels.specs.Table.{levels};
+ghost use Rattle.levels.specs.Lent.{levels_in};
 ghost use Rattle.sides.specs.Best.{is_apart};
-ghost use Rattle.sides.specs.Inner.Limits.{SideRows, BestFits};
+ghost use Rattle.sides.specs.Inner.Limits.{OfBook, OfSide, BestFits};
 ghost use Rattle.asked.specs.Inner.Kinds.{side_number, top_ratio, depth_of_ratio, volume_ratio, trade_price};
 
 pub mod depth; // depth.rt: quantities at, up to and around a price
 pub mod price; // price.rt: the price of trading a target
 
-use quotient::Ratio;
-use sides::{Best, top, volume};
-use types::{NumberAnswer, Price, Quantity, Side};
+use levels::lent::SideRows;
+use quotient::Quotient;
+use sides::{top, volume};
+use types::{Price, PriceLevel, Quantity, Refusal, Side};
 
 // A number of one side.
 #[derive(Clone, Copy)]
@@ -57,35 +57,29 @@ pub enum Trade {
     PriceImpact(Quantity),
 }
 
-pub fn side_number<'a>(
-    side: Side,
-    prices: &'a [u32; 128],
-    quantities: &'a [u32; 128],
-    n: usize,
-    question: SideNumber,
-) -> NumberAnswer
-    requires { SideRows prices.now quantities.now n × (in_order side (take n prices.now) ≡ true) }
-    ensures { reply_of_number result ≡ side_number side question (levels (rows prices.now quantities.now n)) }
+pub fn side_number(side: Side, lent: SideRows<'_>, question: SideNumber) -> Result<u64, Refusal>
+    requires { OfSide side lent }
+    ensures { reply_of result ≡ side_number side question (levels (levels_in lent.entry)) }
 {
     match question {
-        SideNumber::BestPrice => top::best_price(top::best_of(prices, quantities, n)),
-        SideNumber::BestQuantity => top::best_quantity(top::best_of(prices, quantities, n)),
-        SideNumber::DepthAt(price) => depth::depth_at(side, prices, quantities, n, price),
-        SideNumber::LevelCount => NumberAnswer::Is(n as u64),
-        SideNumber::TotalVolume => NumberAnswer::Is(volume::best_total(prices, quantities, n, n)),
-        SideNumber::CumulativeDepth(price) => depth::cumulative_depth(
-            side, prices, quantities, n, price,
-        ),
-        SideNumber::CumulativeQuantity(k) => NumberAnswer::Is(volume::best_total(
-            prices, quantities, n, k,
-        )),
-        SideNumber::PriceAtVolume(target) => price::volume_price(prices, quantities, n, target),
+        SideNumber::BestPrice => top::best_price(top::best_of(lent)),
+        SideNumber::BestQuantity => top::best_quantity(top::best_of(lent)),
+        SideNumber::DepthAt(price) => depth::depth_at(side, lent, price),
+        SideNumber::LevelCount => Ok(lent.count as u64),
+        SideNumber::TotalVolume => Ok(volume::best_total(lent, lent.count)),
+        SideNumber::CumulativeDepth(price) => depth::cumulative_depth(side, lent, price),
+        SideNumber::CumulativeQuantity(k) => Ok(volume::best_total(lent, k)),
+        SideNumber::PriceAtVolume(target) => price::volume_price(lent, target),
     }
 }
 
-pub fn top_ratio(bid: Best, ask: Best, question: TopRatio) -> Ratio
+pub fn top_ratio(
+    bid: Option<PriceLevel>,
+    ask: Option<PriceLevel>,
+    question: TopRatio,
+) -> Result<Quotient, Refusal>
     requires { (is_apart bid ask ≡ true) × BestFits bid × BestFits ask }
-    ensures { reply_of_ratio result ≡ top_ratio question bid ask }
+    ensures { reply_of result ≡ top_ratio question bid ask }
 {
     match question {
         TopRatio::MidPrice => top::mid_price(bid, ask),
@@ -111,9 +105,9 @@ impl VolumeRatio {
 }
 
 // Of the quantity of the bids and that of the asks that it takes.
-pub fn volume_ratio(bid: u64, ask: u64, question: VolumeRatio) -> Ratio
+pub fn volume_ratio(bid: u64, ask: u64, question: VolumeRatio) -> Result<Quotient, Refusal>
     requires { (bid ≤ 128000000000) × (ask ≤ 128000000000) }
-    ensures { reply_of_ratio result ≡ volume_ratio question bid ask }
+    ensures { reply_of result ≡ volume_ratio question bid ask }
 {
     match question {
         VolumeRatio::Imbalance => volume::imbalance(bid, ask),
@@ -125,17 +119,12 @@ pub fn volume_ratio(bid: u64, ask: u64, question: VolumeRatio) -> Ratio
 }
 
 // On the side that the trade walks.
-pub fn trade_price<'a>(
-    prices: &'a [u32; 128],
-    quantities: &'a [u32; 128],
-    n: usize,
-    trade: Trade,
-) -> Ratio
-    requires { SideRows prices.now quantities.now n }
-    ensures { reply_of_ratio result ≡ trade_price trade (levels (rows prices.now quantities.now n)) }
+pub fn trade_price(lent: SideRows<'_>, trade: Trade) -> Result<Quotient, Refusal>
+    requires { OfBook lent }
+    ensures { reply_of result ≡ trade_price trade (levels (levels_in lent.entry)) }
 {
     match trade {
-        Trade::VwapForQty(target) => price::vwap(prices, quantities, n, target),
-        Trade::PriceImpact(target) => price::impact(prices, quantities, n, target),
+        Trade::VwapForQty(target) => price::vwap(lent, target),
+        Trade::PriceImpact(target) => price::impact(lent, target),
     }
 }

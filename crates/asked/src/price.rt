@@ -1,90 +1,65 @@
 // The price of trading a target on one side, and the price reached at a volume. A target outside its limits gives 2.
 ghost use Rattle.std.specs.Prelude.{◌≡◌, ◌≤◌, ◌<◌};
 ghost use Rattle.types.specs.Replies.{refuse};
-ghost use Rattle.types.specs.Answers.{reply_of_number};
-ghost use Rattle.quotient.specs.Over.{reply_of_ratio};
-ghost use Rattle.levels.specs.Table.{levels, rows};
-ghost use Rattle.sides.specs.Inner.Limits.{SideRows};
+ghost use Rattle.types.specs.Answers.{reply_of};
+ghost use Rattle.levels.specs.Table.{levels};
+ghost use Rattle.levels.specs.Lent.{levels_in};
+ghost use Rattle.sides.specs.Inner.Limits.{OfBook};
 ghost use Rattle.sides.specs.Questions.{price_or, vwap_of, impact_of, volume_price_of};
 
 use amount::Amount;
-use quotient::Ratio;
-use types::{NumberAnswer, Refusal};
-use walks::Filling;
+use levels::lent::SideRows;
+use quotient::Quotient;
+use types::Refusal;
 
 // The cost of filling the target best first, over the target; `short` where the levels hold too little. Both prices below are this one walk.
-fn price_or<'a>(
-    prices: &'a [u32; 128],
-    quantities: &'a [u32; 128],
-    n: usize,
-    target: u32,
-    short: Refusal,
-) -> Ratio
-    requires { SideRows prices.now quantities.now n × (0 < target) × (target ≤ 1000000000) }
-    ensures { reply_of_ratio result ≡ price_or (refuse short) target (levels (rows prices.now quantities.now n)) }
+fn price_or(lent: SideRows<'_>, target: u32, short: Refusal) -> Result<Quotient, Refusal>
+    requires { OfBook lent × (0 < target) × (target ≤ 1000000000) }
+    ensures { reply_of result ≡ price_or (refuse short) target (levels (levels_in lent.entry)) }
 {
-    let filling = walks::fill(prices, quantities, n, target);
-    match filling {
-        Filling::Cost(cost) => Ratio::over(Amount::of(cost), target as u64),
-        Filling::Short => Ratio::Refused(short),
-    }
+    let cost = walks::fill(lent, target).ok_or(short)?;
+    Quotient::over(Amount::of(cost), target as u64)
 }
 
-pub fn vwap<'a>(prices: &'a [u32; 128], quantities: &'a [u32; 128], n: usize, target: u32) -> Ratio
-    requires { SideRows prices.now quantities.now n }
-    ensures { reply_of_ratio result ≡ vwap_of target (levels (rows prices.now quantities.now n)) }
+pub fn vwap(lent: SideRows<'_>, target: u32) -> Result<Quotient, Refusal>
+    requires { OfBook lent }
+    ensures { reply_of result ≡ vwap_of target (levels (levels_in lent.entry)) }
 {
     if !types::is_quantity(target) {
-        return Ratio::Refused(Refusal::OutOfLimits);
+        return Err(Refusal::OutOfLimits);
     }
     if target == 0 {
-        return Ratio::over(Amount::of(0), 1);
+        return Quotient::over(Amount::of(0), 1);
     }
-    price_or(
-        prices,
-        quantities,
-        n,
-        target,
-        Refusal::InsufficientLiquidity { target },
-    )
+    price_or(lent, target, Refusal::InsufficientLiquidity { target })
 }
 
-pub fn impact<'a>(
-    prices: &'a [u32; 128],
-    quantities: &'a [u32; 128],
-    n: usize,
-    target: u32,
-) -> Ratio
-    requires { SideRows prices.now quantities.now n }
-    ensures { reply_of_ratio result ≡ impact_of target (levels (rows prices.now quantities.now n)) }
+pub fn impact(lent: SideRows<'_>, target: u32) -> Result<Quotient, Refusal>
+    requires { OfBook lent }
+    ensures { reply_of result ≡ impact_of target (levels (levels_in lent.entry)) }
 {
     if !types::is_quantity(target) {
-        return Ratio::Refused(Refusal::OutOfLimits);
+        return Err(Refusal::OutOfLimits);
     }
     if target == 0 {
-        return Ratio::Refused(Refusal::NoValue);
+        return Err(Refusal::NoValue);
     }
-    price_or(prices, quantities, n, target, Refusal::NoValue)
+    price_or(lent, target, Refusal::NoValue)
 }
 
 #[tactic(auto, using(crate::proofs::Prices::volume_limit))]
-pub fn volume_price<'a>(
-    prices: &'a [u32; 128],
-    quantities: &'a [u32; 128],
-    n: usize,
-    target: u64,
-) -> NumberAnswer
-    requires { SideRows prices.now quantities.now n }
-    ensures { reply_of_number result ≡ volume_price_of target (levels (rows prices.now quantities.now n)) }
+pub fn volume_price(lent: SideRows<'_>, target: u64) -> Result<u64, Refusal>
+    requires { OfBook lent }
+    ensures { reply_of result ≡ volume_price_of target (levels (levels_in lent.entry)) }
 {
     if types::MAX_VOLUME < target {
-        return NumberAnswer::Refused(Refusal::OutOfLimits);
+        return Err(Refusal::OutOfLimits);
     }
-    if n == 0 {
-        return NumberAnswer::Refused(Refusal::NoValue);
+    if lent.count == 0 {
+        return Err(Refusal::NoValue);
     }
     if target == 0 {
-        return NumberAnswer::Refused(Refusal::NoValue);
+        return Err(Refusal::NoValue);
     }
-    NumberAnswer::Is(walks::reach(prices, quantities, n, target) as u64)
+    Ok(walks::reach(lent, target) as u64)
 }

@@ -18,7 +18,7 @@ use Rattle.holding.proofs.Holdings.{fill_in}
 use Rattle.holding.proofs.Places.{put_here, put_elsewhere}
 use Rattle.position.specs.Ledger.{position_at, is_money, is_ledger, Change, changed, kept, provided, cash_after, is_short, bears_fill, filled, settled, booked, with_cash, deposited}
 use Rattle.position.specs.declared.PositionLedger.{PositionLedger}
-use Rattle.position.proofs.Ledgers.{ledger_in}
+use Rattle.position.proofs.Ledgers.{a_ledger}
 use Rattle.balance.specs.Balance.{Event, fill, deposit, offered, at_average, held_at_average, realized_profits, account, deposit_of, Increase, increase_of, sum_over, long_remainders, short_remainders}
 use Rattle.balance.proofs.Fills.{part_of, left_over, closing_leaves_none, filled_part}
 
@@ -58,7 +58,7 @@ filled-account l f hl hf =
     let m = filled l f in
     let old = position_at l s in
     let new = position_after old f in
-    let rows = (ledger_in l hl).rows in
+    let rows = (a_ledger l hl).rows in
     let in-limit = (fill_in f hf).symbol_in in
     let here : position_at m s ≡ new = put_here l.quantities l.averages l.realized rows s in-limit new in
     let elsewhere = put_elsewhere l.quantities l.averages l.realized rows s in-limit new in

@@ -1,5 +1,6 @@
 -- An edit makes Set's and Remove's list of levels, Set is refused exactly where there is no room, and each edit fits its row and keeps the
 -- side well formed.
+use Rattle.std.specs.Prelude.{Result, Ok, Err}
 use Prim.Native.Nat.{ℕ, ◌≤◌, ◌<◌}
 use native.Mathlib.Omega.{arith}
 use mathlib.Core.Path.{◌≡◌, refl, subst}
@@ -24,18 +25,18 @@ use Rattle.levels.specs.declared.Place.TheVariants.{At, Before}
 use Rattle.levels.proofs.Pads.{padded_front}
 use Rattle.levels.proofs.Places.{InList, place_in}
 use Rattle.levels.proofs.Tables.{Sized, Formed, formed, table-back, table_formed, levels-length, levels_few}
-use Rattle.changes.specs.declared.Step.{Step}
-use Rattle.changes.specs.declared.Step.TheVariants.{Do, Refuse}
 use Rattle.changes.specs.Inner.Edits.{row_after, count_after, edited, EditFits, put_edit, out_edit, set_step, edit_of}
 use Rattle.changes.proofs.Changes.{set_order, set-every, remove_order, remove-every, remove-length}
 use Rattle.changes.proofs.Places.{put_at, out_at, put-length, out_length, map-put, map_out, set_place, remove_place}
 use Rattle.changes.proofs.Rows.{set_row, remove_row}
+use Rattle.types.specs.declared.Refusal.{Refusal}
+use Rattle.changes.specs.declared.Edit.{Edit}
 
 -- the place of a price in a table, and the step that Set of it comes to
 abbrev pub place_on : Side → ℕ → Levels → Place
 place_on s p t = place_from s p 0 (take t.count t.prices)
 
-abbrev pub set_on : Side → ℕ → Levels → Step
+abbrev pub set_on : Side → ℕ → Levels → Result Edit Refusal
 set_on s p t = set_step t.count (place_on s p t)
 
 -- an edit at a place of n stays within a row of n used places
@@ -61,11 +62,11 @@ module _ (l : PriceLevel) (ls : List PriceLevel) where
       rw (row (λ m. m.price), row (λ m. m.quantity), put_count w h)
 
   -- with room for the level it is put in, and else refused
-  put_some : (w : Place) → InList w (length ls) → length (put_at w l ls) ≤ max_levels → set_step (length ls) w ≡ Do (put_edit w)
+  put_some : (w : Place) → InList w (length ls) → length (put_at w l ls) ≤ max_levels → set_step (length ls) w ≡ Ok (put_edit w)
   put_some (At i) h room = refl
   put_some (Before i) h room = rw (lt-ltb (length ls) max_levels (omega (arith, put-length ls i l h)))
 
-  put_full : (w : Place) → InList w (length ls) → length ls ≤ max_levels → max_levels < length (put_at w l ls) → set_step (length ls) w ≡ Refuse R.FullSide
+  put_full : (w : Place) → InList w (length ls) → length ls ≤ max_levels → max_levels < length (put_at w l ls) → set_step (length ls) w ≡ Err R.FullSide
   put_full (At i) h few over = absurd (omega (arith, length-set ls i l))
   put_full (Before i) h few over = rw (le-ltb (length ls) max_levels (omega (arith, put-length ls i l h)))
 
@@ -115,9 +116,9 @@ module _ (s : Side) (t : Levels) (w : Sized t) (f : Formed s t) (l : PriceLevel)
   few = omega (arith, levels-length t w f.few, f.few)
 
   -- if there is room, Set is done, and makes Set's levels
-  pub set_some : length (set_level s l (levels t)) ≤ max_levels → set_on s l.price t ≡ Do (put_edit (place_on s l.price t))
+  pub set_some : length (set_level s l (levels t)) ≤ max_levels → set_on s l.price t ≡ Ok (put_edit (place_on s l.price t))
   set_some h =
-      subst (λ (u : Levels). set_on s l.price u ≡ Do (put_edit (place_on s l.price u))) back
+      subst (λ (u : Levels). set_on s l.price u ≡ Ok (put_edit (place_on s l.price u))) back
       (put_some l (levels t) (place_on s l.price (table (levels t))) (in_list s l.price (levels t)) (rw (on_place s l (levels t)) at h))
 
   pub set-edited : length (set_level s l (levels t)) ≤ max_levels → edited (put_edit (place_on s l.price t)) l t ≡ table (set_level s l (levels t))
@@ -126,9 +127,9 @@ module _ (s : Side) (t : Levels) (w : Sized t) (f : Formed s t) (l : PriceLevel)
       (rw (on_place s l (levels t)) (put-table l (levels t) (place_on s l.price (table (levels t))) (in_list s l.price (levels t)) (rw (on_place s l (levels t)) at h)))
 
   -- and if there is none, it is refused
-  pub set_full : max_levels < length (set_level s l (levels t)) → set_on s l.price t ≡ Refuse R.FullSide
+  pub set_full : max_levels < length (set_level s l (levels t)) → set_on s l.price t ≡ Err R.FullSide
   set_full h =
-      subst (λ (u : Levels). set_on s l.price u ≡ Refuse R.FullSide) back
+      subst (λ (u : Levels). set_on s l.price u ≡ Err R.FullSide) back
       (put_full l (levels t) (place_on s l.price (table (levels t))) (in_list s l.price (levels t)) few (rw (on_place s l (levels t)) at h))
 
   -- Remove's edit makes Remove's levels

@@ -1,59 +1,41 @@
--- Opening and closing a row one store at a time: a row after a store still opens, or closes, to the same result.
+-- Opening and closing a row: the places that move, and then the one store.
 use Prim.Native.Nat.{ℕ, suc, ◌+◌, ◌-◌, ◌≤◌, ◌<◌}
 use native.Mathlib.Omega.{arith}
-use native.Mathlib.Numerals.{add-one}
 use mathlib.Core.Path.{◌≡◌}
-use mathlib.Core.List.{List, ◌∷◌, ◌++◌}
-use lib.ListN.{length, take, drop, set, get_or, length-set, length-drop}
-use lib.Seq.{take-suc, take-suc-set, drop-cons, take-set-le, drop-set-lt, drop-set-add, get_or-drop, get_or-set_same, set_split, append_snoc}
+use mathlib.Core.List.{List, [], ◌∷◌, ◌++◌, append_assoc}
+use lib.ListN.{length, take, drop, set, get_or, length-drop}
+use lib.Seq.{take-suc, drop-cons, length-take-le, length_paste_head, set_at}
+use Rattle.std.specs.List.{copy_within}
 use Rattle.changes.specs.Inner.Edits.{inserted, deleted}
 
-module _ (xs : List ℕ) (at i : ℕ) where
-  -- i filled from the place in front of it, and the last store
-  pub inserted-turn : (v : ℕ) → at < i → i < length xs → inserted xs at i v ≡ inserted (set xs i (get_or xs (i - 1) 0)) at (i - 1) v
-  inserted-turn v h l =
-      let x = get_or xs (i - 1) 0 in
-      let m = i - 1 - at in
-      let e₁ : i - at ≡ suc m = omega arith in
-      let e₂ : i + 1 ≡ suc i = omega arith in
-      let e₃ : i - 1 + 1 ≡ i = omega arith in
-      let e₄ : at + m ≡ i - 1 = omega arith in
-      let e₅ : at + (i - at) ≡ i = omega arith in
+module _ (xs : List ℕ) (at n : ℕ) where
+  -- the places from `at` to n moved one on
+  pub opened : (v : ℕ) → at ≤ n → n < length xs → set (copy_within xs at n (at + 1)) at v ≡ inserted xs at n v
+  opened v h l =
+      let front = take at xs in
+      let moved = take (n - at) (drop at xs) in
+      let behind = drop (n + 1) xs in
+      let x = get_or xs at 0 in
+      let e₁ : at + 1 ≡ suc at = omega arith in
+      let e₂ : at + 1 + (n - at) ≡ n + 1 = omega arith in
       cc (
-        take-set-le at xs i x (omega arith),
-        drop-set-add at xs (i - at) x,
-        take-set-le m (drop at xs) (i - at) x (omega arith),
-        drop-cons (set xs i x) i 0 (rw length-set l),
-        get_or-set_same xs i x 0 l,
-        drop-set-lt (suc i) xs i x (omega arith),
-        take-suc (drop at xs) m 0 (simp length-drop (omega arith)),
-        get_or-drop at xs m 0,
-        append_snoc (take m (drop at xs)) x (drop (suc i) xs),
+        take-suc xs at 0 (omega arith),
+        append_assoc front (x ∷ []) moved,
+        append_assoc front (x ∷ moved) behind,
+        set_at front x (moved ++ behind) v at (length-take-le at xs (omega arith)),
       )
 
-  pub inserted_end : (v : ℕ) → i ≡ at → at < length xs → inserted xs at i v ≡ set xs at v
-  inserted_end v e l = let z : at - at ≡ 0 = omega arith in rw (e, z, add-one, set_split)
-
-module _ (xs : List ℕ) (i n : ℕ) (l : n ≤ length xs) where
-  -- i filled from the place behind it, and the last store
-  pub deleted-turn : i + 1 < n → deleted xs i n ≡ deleted (set xs i (get_or xs (i + 1) 0)) (i + 1) n
-  deleted-turn h =
-      let x = get_or xs (i + 1) 0 in
-      let m = n - (i + 1 + 1) in
-      let rest = take m (drop (i + 1 + 1) xs) ++ (0 ∷ drop n xs) in
-      let e₁ : n - (i + 1) ≡ suc m = omega arith in
-      let e₂ : i + 1 + 1 ≡ suc (i + 1) = omega arith in
-      let e₃ : i + 1 ≡ suc i = omega arith in
+  -- those behind `at` up to n moved one back
+  pub closed : at < n → n ≤ length xs → set (copy_within xs (at + 1) n at) (n - 1) 0 ≡ deleted xs at n
+  closed h l =
+      let front = take at xs in
+      let moved = take (n - (at + 1)) (drop (at + 1) xs) in
+      let e₁ : at + (n - (at + 1)) ≡ n - 1 = omega arith in
+      let e₂ : suc (n - 1) ≡ n = omega arith in
+      let few : n - (at + 1) ≤ length (drop (at + 1) xs) = omega (arith, length-drop (at + 1) xs) in
       cc (
-        take-suc-set xs i x (omega arith),
-        drop-set-lt (i + 1 + 1) xs i x (omega arith),
-        drop-set-lt n xs i x (omega arith),
-        drop-cons xs (i + 1) 0 (omega arith),
-        append_snoc (take i xs) x rest,
+        drop-cons xs (n - 1) 0 (omega arith),
+        length_paste_head xs at (drop (at + 1) xs) (n - (at + 1)) (omega arith) few,
+        set_at (front ++ moved) (get_or xs (n - 1) 0) (drop n xs) 0 (n - 1) (rw (← e₁) (length_paste_head xs at (drop (at + 1) xs) (n - (at + 1)) (omega arith) few)),
+        append_assoc front moved (0 ∷ drop n xs),
       )
-
-  pub deleted_end : i + 1 ≡ n → deleted xs i n ≡ set xs i 0
-  deleted_end e =
-      let h : i < length xs = omega arith in
-      let z : i + 1 - (i + 1) ≡ 0 = omega arith in
-      rw (← e, z, add-one, set_split)

@@ -3,12 +3,13 @@
 #![tactic(auto)]
 
 ghost use Rattle.std.specs.Prelude.{◌≡◌, true, ◌≤◌, ◌<◌, length, take};
-ghost use Rattle.levels.specs.Order.{in_order, place_from};
+ghost use Rattle.levels.specs.Order.{place_from};
+ghost use Rattle.levels.specs.Lent.{prices_in};
 ghost use Rattle.changes.specs.Inner.Edits.{inserted, deleted, row_after, count_after, EditFits, set_step, out_edit};
 
 use levels::Place;
-use levels::search::find;
-use types::{Refusal, Side};
+use levels::ordered::Ordered;
+use types::Refusal;
 
 // What a change does to each row of a side: nothing, a number written over, put in or taken out.
 #[derive(Clone, Copy)]
@@ -19,63 +20,49 @@ pub enum Edit {
     Out(usize),
 }
 
-// What a change comes to: an edit of its side's rows, or why not.
-#[derive(Clone, Copy)]
-pub enum Step {
-    Do(Edit),
-    Refuse(Refusal),
-}
-
 // The places from `at` to `n` move one on, and `v` stands at `at`.
+#[tactic(auto, using(crate::proofs::Shifts::opened))]
 pub fn put_in(row: &mut [u32; 128], at: usize, n: usize, v: u32)
     requires { (length row.old ≡ 128) × (at ≤ n) × (n < 128) }
     ensures { row.new ≡ inserted row.old at n v }
 {
-    let mut i = n;
-    while at < i {
-        row[i] = row[i - 1];
-        i -= 1;
-    }
+    row.copy_within(at..n, at + 1);
     row[at] = v;
 }
 
 // The places behind `at` up to `n` move one back, and 0 stands at the last.
+#[tactic(auto, using(crate::proofs::Shifts::closed))]
 pub fn take_out(row: &mut [u32; 128], at: usize, n: usize)
     requires { (length row.old ≡ 128) × (at < n) × (n ≤ 128) }
     ensures { row.new ≡ deleted row.old at n }
 {
-    let mut i = at;
-    while i + 1 < n {
-        row[i] = row[i + 1];
-        i += 1;
-    }
-    row[i] = 0;
+    row.copy_within(at + 1..n, at);
+    row[n - 1] = 0;
 }
 
-// What Set of `price` does to rows of `n` used places.
-pub fn plan_set(side: Side, prices: &[u32; 128], n: usize, price: u32) -> Step
-    requires { (length prices.now ≡ 128) × (n ≤ 128) × (in_order side (take n prices.now) ≡ true) }
-    ensures { result ≡ set_step n (place_from side price 0 (take n prices.now)) }
+// What Set of `price` does to the rows of these prices.
+pub fn plan_set(prices: Ordered<'_>, price: u32) -> Result<Edit, Refusal>
+    ensures { result ≡ set_step prices.entry.count (place_from prices.entry.side price 0 (prices_in prices.entry)) }
 {
-    let place = find(side, prices, n, price);
+    let n = prices.count;
+    let place = prices.find(price);
     match place {
-        Place::At(i) => Step::Do(Edit::Over(i)),
+        Place::At(i) => Ok(Edit::Over(i)),
         Place::Before(i) => {
             if n < 128 {
-                Step::Do(Edit::In(i))
+                Ok(Edit::In(i))
             } else {
-                Step::Refuse(Refusal::FullSide)
+                Err(Refusal::FullSide)
             }
         }
     }
 }
 
-// What Remove of `price` does to rows of `n` used places.
-pub fn plan_remove(side: Side, prices: &[u32; 128], n: usize, price: u32) -> Edit
-    requires { (length prices.now ≡ 128) × (n ≤ 128) × (in_order side (take n prices.now) ≡ true) }
-    ensures { result ≡ out_edit (place_from side price 0 (take n prices.now)) }
+// What Remove of `price` does to the rows of these prices.
+pub fn plan_remove(prices: Ordered<'_>, price: u32) -> Edit
+    ensures { result ≡ out_edit (place_from prices.entry.side price 0 (prices_in prices.entry)) }
 {
-    let place = find(side, prices, n, price);
+    let place = prices.find(price);
     match place {
         Place::At(i) => Edit::Out(i),
         Place::Before(_) => Edit::Keep,

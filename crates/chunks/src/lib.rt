@@ -9,16 +9,15 @@ ghost use Rattle.chunks.specs.Chunks.{whole_end, too_long};
 const TOO_LONG: usize = types::MAX_DIGITS + 2;
 
 // The length of a text's lines, without what follows its last line feed.
+#[tactic(auto, using(crate::proofs::Kept::ended_here, crate::proofs::Kept::ended_before))]
 pub fn whole_lines(text: &[u8]) -> usize
     ensures value { result ≡ whole_end text.now }
     ensures upper_bound { result ≤ length text.now }
 {
-    let mut n = text.len();
-    while n > 0 {
-        if text[n - 1] == 10 {
-            return n;
+    for at in (0..text.len()).rev() {
+        if text[at] == b'\n' {
+            return at + 1;
         }
-        n -= 1;
     }
     0
 }
@@ -29,15 +28,7 @@ pub fn keep(buf: &mut [u8], from: usize, to: usize) -> usize
     ensures buf_after { take result buf.new ≡ take too_long (drop from (take to buf.old)) }
     ensures upper_bound { result ≤ too_long }
 {
-    let mut i = 0;
-    let mut at = from;
-    while at < to {
-        if i >= TOO_LONG {
-            return i;
-        }
-        buf[i] = buf[at];
-        i += 1;
-        at += 1;
-    }
-    i
+    let n = (to - from).min(TOO_LONG);
+    buf.copy_within(from..from + n, 0);
+    n
 }

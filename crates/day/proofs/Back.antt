@@ -1,5 +1,5 @@
 -- Fills as numbers and back: a fill's own numbers are it again where they fit their bits, and where they do not, both are refused alike.
-use Rattle.std.proofs.Common.{◌≡◌, ℕ, ◌*◌, ◌%◌, ◌≤◌, Bool, true, false, eqb, List, [], ◌∷◌, ◌++◌, map, length, pos, sym, refl, ap, ◌∙◌, true≢false, arith, le-ltb, eq-eqb, le-leb}
+use Rattle.std.proofs.Common.{◌≡◌, ℕ, ◌*◌, ◌%◌, ◌≤◌, Bool, true, false, eqb, List, [], ◌∷◌, ◌++◌, map, length, ℤ, pos, sym, refl, ap, ◌∙◌, true≢false, arith, le-ltb, eq-eqb, le-leb}
 use Rattle.types.specs.Named.{side_named, side_number}
 use Rattle.types.specs.declared.Side.{Side}
 use Rattle.types.specs.declared.Side.TheVariants.{Bid, Ask}
@@ -9,9 +9,9 @@ use Rattle.holding.specs.Holding.{is_fill}
 use Rattle.holding.specs.declared.Fill.{Fill}
 use Rattle.holding.proofs.Holdings.{fill_in}
 use Rattle.position.specs.declared.PositionLedger.{PositionLedger}
-use Rattle.position.specs.Ledger.{Change, is_ledger, booked}
+use Rattle.position.specs.Ledger.{Change, is_ledger, kept, booked}
 use Rattle.day.specs.Day.{ledger_after, reply_after, day_booked}
-use Rattle.day.specs.Numbers.{is_up_to, max_word, are_fill, no_fill, fill_by, first_fill, first_fills, fills_by, fill_numbers, fills_numbers, day_booked_by}
+use Rattle.day.specs.Numbers.{is_up_to, max_word, are_fill, no_fill, fill_by, first_fill, is_first, first_fills, fills_by, fill_numbers, fills_numbers, day_booked_by}
 use Rattle.day.specs.Meaning.{ByNumbers}
 use Rattle.day.proofs.Numbers.{fills_next}
 
@@ -75,6 +75,11 @@ booked-again l f =
     by (fits f)
     (λ t. ap (booked l) (passed f t))
     (λ t. ap (booked l) (none f t) ∙ alike l no_fill f none_outside (outside f t))
+
+-- numbers that are no fill are refused with 2 by a ledger
+pub none_booked : (l : PositionLedger) (ns : List ℤ) → is_ledger l ≡ true → is_first ns ≡ false → booked l (first_fill ns) ≡ kept l 2 []
+unfolding booked fill_by
+none_booked l ns h t = rw (t, h, none_outside)
 
 -- ── fills ──
 

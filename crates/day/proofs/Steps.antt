@@ -1,5 +1,5 @@
 -- One fill of a day: what is left of the day after one that was taken, and the day's end at one that was not.
-use Rattle.std.proofs.Common.{◌≡◌, ℕ, ◌+◌, true, List, [], ◌∷◌, ℤ, sym, ap, ◌∙◌}
+use Rattle.std.proofs.Common.{◌≡◌, ℕ, ◌+◌, ◌<◌, true, List, [], ◌∷◌, length, get_or, drop, ℤ, sym, ap, ◌∙◌, add-one, drop-cons}
 use Rattle.types.specs.Replies.{done, refused}
 use Rattle.types.specs.Runs.{Run, counting, until_refused}
 use Rattle.types.proofs.Runs.{counting_more, counting-ended}
@@ -13,6 +13,11 @@ use Rattle.day.specs.Day.{booked_in_order}
 pub is_over : (l : PositionLedger) (n : ℕ) (day : Run PositionLedger) → counting n (booked_in_order l []) ≡ day → record { stands = l; taken = n; reply = done tt } ≡ day
 unfolding until_refused
 is_over l n day e = sym (counting-ended n l (done tt)) ∙ e
+
+-- at a place of a list, what is left begins with the fill there
+pub begins : (fs : List Fill) (i : ℕ) (d : Fill) → i < length fs → (l : PositionLedger) (n : ℕ) (day : Run PositionLedger)
+    → counting n (booked_in_order l (drop i fs)) ≡ day → counting n (booked_in_order l (get_or fs i d ∷ drop (i + 1) fs)) ≡ day
+begins fs i d h l n day e = rw (add-one, ← drop-cons fs i d h) e
 
 -- what a fill that is taken leaves is a ledger
 pub leaves_ledger : (l : PositionLedger) (f : Fill) (c : Change) → c ≡ booked l f → c.reply ≡ done tt → is_ledger c.ledger ≡ true

@@ -1,7 +1,7 @@
 -- A day's fills in one call: taken in order until one is refused.
 use Rattle.std.specs.Prelude.{cond, List, []}
 use Rattle.types.specs.Replies.{Reply, refused}
-use Rattle.types.specs.Answers.{reply_of_outcome}
+use Rattle.types.specs.Answers.{reply_of}
 use Rattle.types.specs.Runs.{Run, ended, until_refused}
 use Rattle.holding.specs.declared.Fill.{Fill}
 use Rattle.position.specs.declared.PositionLedger.{PositionLedger}
@@ -27,8 +27,8 @@ day_booked l fs = cond (is_ledger l) (booked_in_order l fs) (ended l (refused 1 
 
 -- what a call gave back that is lent rows: the ledger that it left in them, with its totals
 abbrev pub rows_day_of : PositionLedger → RowsDay → Run PositionLedger
-rows_day_of l d = record { stands = l; taken = d.taken; reply = reply_of_outcome d.outcome }
+rows_day_of l d = record { stands = l; taken = d.taken; reply = reply_of d.outcome }
 
 -- what a call gave back
 abbrev pub day_of : DayBooked → Run PositionLedger
-day_of d = record { stands = d.ledger; taken = d.taken; reply = reply_of_outcome d.outcome }
+day_of d = record { stands = d.ledger; taken = d.taken; reply = reply_of d.outcome }

@@ -2,4 +2,3 @@ pub mod Day
 pub mod Meaning
 pub mod Numbers
 pub mod Examples
-pub mod Inner

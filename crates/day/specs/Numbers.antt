@@ -38,6 +38,10 @@ fill_by symbol side quantity price commission =
 abbrev pub first_fill : List ℤ → Fill
 first_fill ns = fill_by (slice_index_or ns 0 (pos 0)) (slice_index_or ns 1 (pos 0)) (slice_index_or ns 2 (pos 0)) (slice_index_or ns 3 (pos 0)) (slice_index_or ns 4 (pos 0))
 
+-- the first five of these numbers are a fill
+abbrev pub is_first : List ℤ → Bool
+is_first ns = are_fill (slice_index_or ns 0 (pos 0)) (slice_index_or ns 1 (pos 0)) (slice_index_or ns 2 (pos 0)) (slice_index_or ns 3 (pos 0))
+
 -- so many fills, of five numbers each
 unfoldable pub first_fills : ℕ → List ℤ → List Fill
 first_fills zero ns = []

@@ -2,14 +2,13 @@
 // fills are lent as a slice of records, and the ledger goes in by value and comes back; rows.rt has both as plain numbers that are lent.
 #![tactic(auto)]
 
-ghost use Rattle.std.specs.Prelude.{◌≡◌};
-ghost use Rattle.types.specs.Answers.{reply_of_outcome};
-ghost use Rattle.day.specs.Day.{day_of, day_booked};
-ghost use Rattle.day.specs.Inner.Walk.{begun, one_if_taken, next_of};
+ghost use Rattle.std.specs.Prelude.{◌≡◌, true};
+ghost use Rattle.position.specs.Ledger.{is_ledger};
+ghost use Rattle.day.specs.Day.{day_of, rows_day_of, booked_in_order, day_booked};
 
 use holding::Fill;
-use position::{PositionLedger, Totals};
-use types::{Outcome, Refusal};
+use position::PositionLedger;
+use types::Refusal;
 
 pub mod rows; // rows.rt: fills lent as numbers, five each, booked to a ledger that is lent as its rows
 
@@ -18,75 +17,53 @@ pub mod rows; // rows.rt: fills lent as numbers, five each, booked to a ledger t
 pub struct DayBooked {
     pub ledger: PositionLedger,
     pub taken: u64,
-    pub outcome: Outcome,
+    pub outcome: Result<(), Refusal>,
 }
 
-// The same beside the rows of a ledger that is lent.
+// The same of a ledger that is changed where it is.
 #[derive(Clone, Copy)]
 pub struct RowsDay {
-    pub totals: Totals,
     pub taken: u64,
-    pub outcome: Outcome,
+    pub outcome: Result<(), Refusal>,
 }
 
-// A day without a fill yet: 1 if the record is no ledger.
-fn begin(ledger: PositionLedger) -> DayBooked
-    ensures { day_of result ≡ begun ledger }
+// The fills in order, until one is refused, to a ledger: what each leaves is one again.
+fn book_all(ledger: &mut PositionLedger, fills: &[Fill]) -> RowsDay
+    requires { is_ledger ledger.old ≡ true }
+    ensures { rows_day_of ledger.new result ≡ booked_in_order ledger.old fills.now }
 {
-    if ledger.is_ledger() {
-        return DayBooked {
-            ledger,
-            taken: 0,
-            outcome: Outcome::Done,
+    let mut taken = 0;
+    for fill in fills {
+        let outcome = ledger.apply(*fill);
+        let Ok(()) = outcome else {
+            return RowsDay { taken, outcome };
         };
+        taken += 1;
     }
-    DayBooked {
-        ledger,
-        taken: 0,
-        outcome: Outcome::Refused(Refusal::NotARecord),
-    }
-}
-
-// 1 for a fill that was taken, 0 for another.
-fn counts(outcome: Outcome) -> u64
-    ensures { result ≡ one_if_taken (reply_of_outcome outcome) }
-{
-    match outcome {
-        Outcome::Done => 1,
-        Outcome::Refused(why) => 0,
-    }
-}
-
-// One fill more, if none was refused before it.
-fn book_next(day: DayBooked, fill: Fill) -> DayBooked
-    ensures { day_of result ≡ next_of (day_of day) fill }
-{
-    let before = day.outcome;
-    let Outcome::Done = before else {
-        return day;
-    };
-    let ledger = day.ledger;
-    let booked = ledger.apply_fill(fill);
-    let after = booked.ledger;
-    let outcome = booked.outcome;
-    DayBooked {
-        ledger: after,
-        taken: std::num::wrapping_add_u64(day.taken, counts(outcome)),
-        outcome,
+    RowsDay {
+        taken,
+        outcome: Ok(()),
     }
 }
 
 // Books the fills in order, until one is refused.
-pub fn apply_fills(ledger: PositionLedger, fills: &[Fill]) -> DayBooked
+#[tactic(auto, unfolding(crate::specs::Day::day_booked))]
+pub fn apply_fills(mut ledger: PositionLedger, fills: &[Fill]) -> DayBooked
     ensures { day_of result ≡ day_booked ledger fills.now }
 {
-    let mut day = begin(ledger);
-    let mut i = 0;
-    while i < fills.len() {
-        day = book_next(day, fills[i]);
-        i += 1;
+    if !ledger.is_ledger() {
+        return DayBooked {
+            ledger,
+            taken: 0,
+            outcome: Err(Refusal::NotARecord),
+        };
     }
-    day
+    let day = book_all(&mut ledger, fills);
+    DayBooked {
+        ledger,
+        taken: day.taken,
+        outcome: day.outcome,
+    }
 }
 
 // Four fills, which are lent to the call above: whoever calls this makes no reference to a record.

@@ -1,25 +1,27 @@
 -- Laws of a text that is taken byte by byte, and of the lines that end in it.
 use Prim.Native.Nat.{ℕ, ◌+◌, ◌≤◌, ◌<◌}
-use mathlib.Core.Bool.{Bool, true, false, cond, true≢false}
+use mathlib.Core.Bool.{Bool, true, false, cond}
 use mathlib.Core.Path.{◌≡◌, refl, sym, ap, ◌∙◌}
 use mathlib.Core.List.{List, [], ◌∷◌, ◌++◌, append_assoc, append-nil}
 use native.Mathlib.Omega.{arith}
 use native.Mathlib.Numerals.{add-one}
 use borrow.Author.Tests.{eq-eqb, ne_eqb, lt-ltb, le-ltb}
-use lib.ListN.{length, take, drop, get_or, set, length-append, drop_of_length-le}
-use lib.Seq.{drop-cons, take-suc-set}
-use Rattle.day_keeping.specs.Inner.Keeping.{Kept, spoilt, with, line_ended}
-use Rattle.day_collecting.specs.Inner.Collecting.{finished, last_ended, one_held, text_taken, Goes, Took}
+use lib.ListN.{length, drop, get_or, length-append}
+use lib.Seq.{drop-cons}
+use Rattle.day_keeping.specs.declared.Reading.{Reading}
+use Rattle.day_keeping.specs.declared.Reading.TheVariants.{Going, Ended, Failed}
+use Rattle.day_keeping.specs.Inner.Keeping.{is_going, ended, Kept, finished, spoilt, with, line_ended}
+use Rattle.day_collecting.specs.Inner.Collecting.{last_ended, text_taken, Goes, Took}
 
 -- ── a byte ──
 
 -- where nothing more is read, nothing is taken
-pub stopped : (k : Kept) (h t : List ℕ) → k.day.more ≡ false → text_taken k h t ≡ k
+pub stopped : (k : Kept) (h t : List ℕ) → is_going k.day.reading ≡ false → text_taken k h t ≡ k
 unfolding text_taken
 stopped k h [] e = rw e
 stopped k h (b ∷ bs) e = rw e
 
-module _ (k : Kept) (h : List ℕ) (b : ℕ) (m : k.day.more ≡ true) where
+module _ (k : Kept) (h : List ℕ) (b : ℕ) (m : is_going k.day.reading ≡ true) where
   ends : b ≡ 10 → Goes k h (b ∷ []) (line_ended h k) []
   unfolding text_taken
   ends e rest = rw (m, eq-eqb b 10 e)
@@ -27,17 +29,13 @@ module _ (k : Kept) (h : List ℕ) (b : ℕ) (m : k.day.more ≡ true) where
   pub byte_ends : b ≡ 10 → (k' : Kept) (h' : List ℕ) → k' ≡ line_ended h k → h' ≡ [] → Goes k h (b ∷ []) k' h'
   byte_ends e k' h' ek eh rest = rw (ek, eh) (ends e rest)
 
-  pub byte_held : (b ≡ 10 → ⊥) → length h < 4096 → Goes k h (b ∷ []) (with k (one_held k.day)) (h ++ (b ∷ []))
+  pub byte_held : (b ≡ 10 → ⊥) → length h < 4096 → Goes k h (b ∷ []) k (h ++ (b ∷ []))
   unfolding text_taken
   byte_held n l rest = rw (m, ne_eqb b 10 n, lt-ltb (length h) 4096 l)
 
   pub byte_past : (b ≡ 10 → ⊥) → 4096 ≤ length h → (h' : List ℕ) → Goes k h (b ∷ []) (with k (spoilt k.day)) h'
   unfolding text_taken
   byte_past n l h' rest = rw (m, ne_eqb b 10 n, le-ltb (length h) 4096 l) (sym (stopped (with k (spoilt k.day)) h' rest refl))
-
--- the byte that is stored behind those that are held is the last of them
-pub stored_held : (line : List ℕ) (n b : ℕ) → n < length line → take (n + 1) (set line n b) ≡ take n line ++ (b ∷ [])
-stored_held line n b h = rw (add-one n) (take-suc-set line n b h)
 
 -- ── bytes ──
 
@@ -53,16 +51,18 @@ one_byte bytes i k k' h h' l g rest =
 pub goes_then : (k l m : Kept) (h i j bytes more : List ℕ) → Goes k h bytes l i → Goes l i more m j → Goes k h (bytes ++ more) m j
 goes_then k l m h i j bytes more g f rest = rw (append_assoc bytes more rest) (g (more ++ rest) ∙ f rest)
 
--- none is left, or nothing more is read
-pub none_left : (bytes : List ℕ) (i : ℕ) (k : Kept) (h : List ℕ) → length bytes ≤ i → (rest : List ℕ) → text_taken k h (drop i bytes ++ rest) ≡ text_taken k h rest
-none_left bytes i k h l rest = let none : drop i bytes ≡ [] = drop_of_length-le bytes l in rw none
-
-pub none-taken : (bytes : List ℕ) (i : ℕ) (k : Kept) (h : List ℕ) → k.day.more ≡ false → (rest : List ℕ) → text_taken k h (drop i bytes ++ rest) ≡ text_taken k h rest
+-- nothing more is read
+pub none-taken : (bytes : List ℕ) (i : ℕ) (k : Kept) (h : List ℕ) → is_going k.day.reading ≡ false → (rest : List ℕ) → text_taken k h (drop i bytes ++ rest) ≡ text_taken k h rest
 none-taken bytes i k h e rest = stopped k h (drop i bytes ++ rest) e ∙ sym (stopped k h rest e)
 
 -- ── the end ──
 
-module _ (k : Kept) (h : List ℕ) (m : k.day.more ≡ true) where
+pub ended_stops : (r : Reading) → is_going (ended r) ≡ false
+ended_stops Going = refl
+ended_stops Ended = refl
+ended_stops Failed = refl
+
+module _ (k : Kept) (h : List ℕ) (m : is_going k.day.reading ≡ true) where
   pub at_end : text_taken k h [] ≡ last_ended h k
   unfolding text_taken
   at_end = ap (λ (t : Bool). cond t (last_ended h k) k) m
@@ -74,32 +74,22 @@ module _ (k : Kept) (h : List ℕ) (m : k.day.more ≡ true) where
       go [] p = absurd (omega arith)
       go (b ∷ bs) p = refl
 
-  pub no_last_line : h ≡ [] → with k (finished k.day) ≡ text_taken k h []
-  no_last_line e = ap (λ (g : List ℕ). last_ended g k) (sym e) ∙ sym at_end
+  pub no_last_line : length h ≡ 0 → with k (finished k.day) ≡ text_taken k h []
+  no_last_line e = go h e ∙ sym at_end
+    where
+      go : (g : List ℕ) → length g ≡ 0 → with k (finished k.day) ≡ last_ended g k
+      go [] p = refl
+      go (b ∷ bs) p = absurd (omega arith)
 
 -- ── what was read ──
-
--- none yet
-pub took_none : (k : Kept) (h : List ℕ) → k.day.more ≡ true → Took 0 k h k h
-took_none k h m = record { bytes = []; few = omega arith; goes = λ _ rest. refl; ends = λ e. absurd (both m e) }
-  where
-    both : {b : Bool} → b ≡ true → b ≡ false → ⊥
-    both e f = true≢false (sym e ∙ f)
 
 -- some bytes
 pub took_bytes : (most : ℕ) (k k' : Kept) (h h' bytes : List ℕ) → length bytes ≤ most → Goes k h bytes k' h' → Took most k h k' h'
 took_bytes most k k' h h' bytes l g =
     record { bytes = bytes; few = l; goes = λ _. g; ends = λ e. (rw (append-nil bytes) at (g [])) ∙ stopped k' h' [] e }
 
--- the end
-pub took_end : (most : ℕ) (k k' : Kept) (h h' : List ℕ) → k'.day.more ≡ false → k' ≡ text_taken k h [] → Took most k h k' h'
-took_end most k k' h h' f e = record { bytes = []; few = omega arith; goes = λ m. absurd (both m f); ends = λ _. sym e }
-  where
-    both : {b : Bool} → b ≡ true → b ≡ false → ⊥
-    both m g = true≢false (sym m ∙ g)
-
 -- some, and then others
-pub took_then : (m n : ℕ) (k l p : Kept) (h i j : List ℕ) → Took m k h l i → l.day.more ≡ true → Took n l i p j → Took (m + n) k h p j
+pub took_then : (m n : ℕ) (k l p : Kept) (h i j : List ℕ) → Took m k h l i → is_going l.day.reading ≡ true → Took n l i p j → Took (m + n) k h p j
 took_then m n k l p h i j a e b = record {
   bytes = a.bytes ++ b.bytes;
   few = simp length-append (omega (arith, a.few, b.few));

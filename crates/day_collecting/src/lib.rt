@@ -2,16 +2,18 @@
 // what is kept of a text, taken whole; no contract can say that the file has that text.
 #![tactic(auto)]
 
-ghost use Rattle.std.specs.Prelude.{◌≡◌, true, ◌||◌, List, ℕ, length};
-ghost use Rattle.day_keeping.specs.Inner.Keeping.{kept};
-ghost use Rattle.day_collecting.specs.Inner.Collecting.{held_in, Within, Took, KeptOf};
+ghost use Rattle.std.specs.Prelude.{◌≡◌, true, ◌||◌, List, ℕ};
+ghost use Rattle.day_keeping.specs.Inner.Keeping.{is_going, is_good, kept};
+ghost use Rattle.day_collecting.specs.Inner.Collecting.{Took, KeptOf};
 
 mod bytes; // bytes.rt: the bytes of a text, one by one
+mod line; // line.rt: the line that is put together
 
-use amount::Amount;
 use bytes::{take_bytes, take_last};
-use day_keeping::{Collected, fault};
+use day_keeping::fills::Fills;
+use day_keeping::{Collected, Reading, fault};
 use inputs::fail;
+use line::Line;
 use std::io::Read;
 
 // The most reads: a text of so many is not read to its end.
@@ -23,59 +25,47 @@ fn take_some<R: Eprint + Alloc>(
     day: Collected,
     input: &mut impl Read,
     name: &[u8],
-    chunk: &mut [u8],
-    line: &mut [u8],
-    numbers: &mut [i64; 500000],
-    lines: &mut [u64; 100000],
+    chunk: &mut [u8; 65536],
+    line: &mut Line,
+    fills: &mut Fills,
 ) -> Collected
-    requires { Within day × (day.more ≡ true) × (length chunk.old ≡ 65536) × (length line.old ≡ 4096) }
-    ensures { Within result × ((result.more || result.good) ≡ true → Took 65536 (kept day numbers.old lines.old) (held_in day line.old) (kept result numbers.new lines.new) (held_in result line.new)) }
+    requires { is_going day.reading ≡ true }
+    ensures { (is_going result.reading || is_good result.reading) ≡ true → Took 65536 (kept day fills.old) line.old (kept result fills.new) line.new }
 {
     match input.read(chunk) {
-        Ok(0) => take_last(rt, day, line, numbers, lines),
-        Ok(n) => take_bytes(rt, day, &chunk[..n], line, numbers, lines),
+        Ok(0) => take_last(rt, day, line, fills),
+        Ok(n) => take_bytes(rt, day, &chunk[..n], line, fills),
         Err(why) => {
             fail(rt, name, why);
-            let mut failed = day;
-            failed.more = false;
-            failed.good = false;
-            failed
+            day.failed()
         }
     }
 }
 
-// Reads until nothing more is to be read.
+// Reads until nothing more is to be read, and keeps the fills of this text alone.
 pub fn collect<R: Eprint + Alloc>(
     rt: &R,
     input: &mut impl Read,
     name: &[u8],
-    numbers: &mut [i64; 500000],
-    lines: &mut [u64; 100000],
+    fills: &mut Fills,
 ) -> Collected
-    ensures { Within result × (result.good ≡ true → (text : List ℕ) × KeptOf text (kept result numbers.new lines.new)) }
+    ensures { is_good result.reading ≡ true → (text : List ℕ) × KeptOf text (kept result fills.new) }
 {
-    // as slices, they are known to have room for 100,000 fills
-    let all: &[i64] = numbers;
-    let each: &[u64] = lines;
-    let mut space = [0u8; 65536];
-    let mut room = [0u8; 4096];
-    let chunk: &mut [u8] = &mut space;
-    let line: &mut [u8] = &mut room;
+    let mut chunk = [0u8; 65536];
+    let mut line = Line::new();
+    fills.count = 0;
     let mut day = Collected {
         line: 1,
-        held: 0,
-        opened: 0,
-        cash: Amount { value: 0 },
-        fills: 0,
-        more: true,
-        good: true,
+        opening: None,
+        reading: Reading::Going,
     };
-    let mut turns = TURNS;
-    while turns > 0 && day.more {
-        day = take_some(rt, day, input, name, chunk, line, numbers, lines);
-        turns -= 1;
+    for _turn in 0..TURNS {
+        if !day.is_going() {
+            break;
+        }
+        day = take_some(rt, day, input, name, &mut chunk, &mut line, fills);
     }
-    if day.more {
+    if day.is_going() {
         return fault(rt, day, b"too long a day");
     }
     day

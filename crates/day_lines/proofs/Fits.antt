@@ -6,14 +6,11 @@ use Rattle.holding.specs.declared.Fill.{Fill}
 use Rattle.numerals.specs.Numerals.{numeral_up_to, signed_of}
 use Rattle.numerals.proofs.Digits.{read_fits}
 use Rattle.numerals.specs.Inner.Sizes.{size_of}
-use Rattle.numerals.specs.declared.Number.{Number}
-use Rattle.numerals.specs.declared.Number.TheVariants as N
-use Rattle.numerals.specs.declared.Signed.{Signed}
-use Rattle.numerals.specs.declared.Signed.TheVariants as S
+use Rattle.std.specs.Prelude.{Option, Some, None}
+use Rattle.amount.specs.declared.Amount.{Amount}
+use Rattle.types.specs.declared.Side.{Side}
 use Rattle.day_lines.specs.Words.{alike}
 use Rattle.day_lines.specs.Lines.{cash, side_word, cash_said, fill_said, said_by}
-use Rattle.day_lines.specs.declared.Sided.{Sided}
-use Rattle.day_lines.specs.declared.Sided.TheVariants as D
 use Rattle.day_lines.specs.declared.Said.{Said}
 use Rattle.day_lines.specs.declared.Said.TheVariants as L
 
@@ -29,17 +26,17 @@ SmallIn (L.Cash c) = Unit {0}
 SmallIn (L.Fill f) = Small f
 SmallIn L.Other = Unit {0}
 
-fill_small : (s : Number) (d : Sided) (q p : Number) (c : Signed) → size_of s ≤ 4294967295 → size_of q ≤ 4294967295 → size_of p ≤ 4294967295 → SmallIn (fill_said s d q p c)
-fill_small (N.Is s) (D.Is d) (N.Is q) (N.Is p) (S.Is c) x y z = record { symbol = x; quantity = y; price = z }
-fill_small (N.Is s) (D.Is d) (N.Is q) (N.Is p) S.Other x y z = tt
-fill_small (N.Is s) (D.Is d) (N.Is q) N.Other c x y z = tt
-fill_small (N.Is s) (D.Is d) N.Other p c x y z = tt
-fill_small (N.Is s) D.Other q p c x y z = tt
-fill_small N.Other d q p c x y z = tt
+fill_small : (s : Option ℕ) (d : Option Side) (q p : Option ℕ) (c : Option Amount) → size_of s ≤ 4294967295 → size_of q ≤ 4294967295 → size_of p ≤ 4294967295 → SmallIn (fill_said s d q p c)
+fill_small (Some s) (Some d) (Some q) (Some p) (Some c) x y z = record { symbol = x; quantity = y; price = z }
+fill_small (Some s) (Some d) (Some q) (Some p) None x y z = tt
+fill_small (Some s) (Some d) (Some q) None c x y z = tt
+fill_small (Some s) (Some d) None p c x y z = tt
+fill_small (Some s) None q p c x y z = tt
+fill_small None d q p c x y z = tt
 
-cash_small : (c : Signed) → SmallIn (cash_said c)
-cash_small (S.Is c) = tt
-cash_small S.Other = tt
+cash_small : (c : Option Amount) → SmallIn (cash_said c)
+cash_small (Some c) = tt
+cash_small None = tt
 
 pub said_small : (ws : List (List ℕ)) → SmallIn (said_by ws)
 unfolding said_by

@@ -1,4 +1,3 @@
 pub mod Words
 pub mod Lines
-pub mod Inner
 pub mod Examples

@@ -1,17 +1,12 @@
 -- What a line of a day says. `cash N` is the opening cash; `SYMBOL bid|ask QUANTITY PRICE COMMISSION` is a fill.
-use Rattle.std.specs.Prelude.{ℕ, cond, List, [], ◌∷◌}
+use Rattle.std.specs.Prelude.{ℕ, cond, List, [], ◌∷◌, Option, Some, None}
 use Rattle.amount.specs.declared.Amount.{Amount}
+use Rattle.holding.specs.declared.Fill.{Fill}
 use Rattle.types.specs.Bytes.{bytes}
 use Rattle.types.specs.declared.Side.{Side}
 use Rattle.types.specs.declared.Side.TheVariants.{Bid, Ask}
 use Rattle.day_lines.specs.Words.{spoken, words, alike}
 use Rattle.numerals.specs.Numerals.{numeral_up_to, signed_of}
-use Rattle.numerals.specs.declared.Number.{Number}
-use Rattle.numerals.specs.declared.Number.TheVariants as N
-use Rattle.day_lines.specs.declared.Sided.{Sided}
-use Rattle.day_lines.specs.declared.Sided.TheVariants as D
-use Rattle.numerals.specs.declared.Signed.{Signed}
-use Rattle.numerals.specs.declared.Signed.TheVariants as S
 use Rattle.day_lines.specs.declared.Said.{Said}
 use Rattle.day_lines.specs.declared.Said.TheVariants as L
 
@@ -36,26 +31,26 @@ abbrev pub ask : List ℕ
 ask = bytes "ask"
 
 -- a word as a side
-abbrev pub side_word : List ℕ → Sided
-side_word w = cond (alike w bid) (D.Is Bid) (cond (alike w ask) (D.Is Ask) D.Other)
+abbrev pub side_word : List ℕ → Option Side
+side_word w = cond (alike w bid) (Some Bid) (cond (alike w ask) (Some Ask) None)
 
 -- what follows from a number; a word that is none makes the line none of a day
-abbrev pub if_number : Number → (ℕ → Said) → Said
-if_number (N.Is n) f = f n
-if_number N.Other f = L.Other
+abbrev pub if_number : Option ℕ → (ℕ → Said) → Said
+if_number (Some n) f = f n
+if_number None f = L.Other
 
 -- the same from a side
-abbrev pub if_sided : Sided → (Side → Said) → Said
-if_sided (D.Is s) f = f s
-if_sided D.Other f = L.Other
+abbrev pub if_sided : Option Side → (Side → Said) → Said
+if_sided (Some s) f = f s
+if_sided None f = L.Other
 
 -- and from a signed number
-abbrev pub if_signed : Signed → (Amount → Said) → Said
-if_signed (S.Is a) f = f a
-if_signed S.Other f = L.Other
+abbrev pub if_signed : Option Amount → (Amount → Said) → Said
+if_signed (Some a) f = f a
+if_signed None f = L.Other
 
 -- a fill of these parts
-abbrev pub fill_said : Number → Sided → Number → Number → Signed → Said
+abbrev pub fill_said : Option ℕ → Option Side → Option ℕ → Option ℕ → Option Amount → Said
 fill_said symbol side quantity price commission =
     if_number symbol (λ s. if_sided side (λ d. if_number quantity (λ q. if_number price (λ p. if_signed commission (λ c.
     L.Fill (record { symbol = s; side = d; quantity = q; price = p; commission = c }))))))
@@ -65,8 +60,13 @@ abbrev pub fill_line : List ℕ → List ℕ → List ℕ → List ℕ → List 
 fill_line symbol side quantity price commission =
     fill_said (numeral_up_to 4294967295 symbol) (side_word side) (numeral_up_to 4294967295 quantity) (numeral_up_to 4294967295 price) (signed_of commission)
 
+-- a fill, if there is one
+abbrev pub fill_of : Option Fill → Said
+fill_of (Some f) = L.Fill f
+fill_of None = L.Other
+
 -- an opening cash of this amount
-abbrev pub cash_said : Signed → Said
+abbrev pub cash_said : Option Amount → Said
 cash_said amount = if_signed amount (λ a. L.Cash a)
 
 -- two words

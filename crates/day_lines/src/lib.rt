@@ -5,24 +5,15 @@
 ghost use Rattle.std.specs.Prelude.{◌≡◌, ◌≤◌, length, take};
 ghost use Rattle.day_lines.specs.Words.{spoken, word_at, words as words_of};
 ghost use Rattle.numerals.specs.Numerals.{numeral_up_to};
-ghost use Rattle.day_lines.specs.Lines.{side_word, cash_said, fill_said, cash_line, fill_line, said_by, said};
-ghost use Rattle.numerals.specs.Inner.Sizes.{size_of};
+ghost use Rattle.day_lines.specs.Lines.{side_word, cash_said, fill_of, cash_line, fill_line, said_by, said};
 
-mod words; // words.rt: where the words of a text stand
+mod words; // words.rt: the words of a text
 
 use amount::Amount;
 use holding::Fill;
-use numerals::{Number, Signed, read_number, read_signed};
+use numerals::{read_number, read_signed};
 use types::Side;
-use wire::same;
 use words::{count, word};
-
-// A word as a side, or it is something else.
-#[derive(Clone, Copy)]
-pub enum Sided {
-    Is(Side),
-    Other,
-}
 
 #[derive(Clone, Copy)]
 pub enum Said {
@@ -36,109 +27,64 @@ pub enum Said {
 fn spoken_end(line: &[u8]) -> usize
     ensures { (result ≤ length line.now) × (take result line.now ≡ spoken line.now) }
 {
-    let mut i = 0;
-    while i < line.len() {
-        if line[i] == b'#' {
-            return i;
-        }
-        i += 1;
-    }
-    i
+    line.iter()
+        .position(|byte| *byte == b'#')
+        .unwrap_or(line.len())
 }
 
 // The side that a word is.
-fn side(word: &[u8]) -> Sided
+#[tactic(auto, using(crate::proofs::Cuts::other_side))]
+fn side(word: &[u8]) -> Option<Side>
     ensures { result ≡ side_word word.now }
 {
-    if same(word, &[b'b', b'i', b'd']) {
-        return Sided::Is(Side::Bid);
+    match word {
+        b"bid" => Some(Side::Bid),
+        b"ask" => Some(Side::Ask),
+        _ => None,
     }
-    if same(word, &[b'a', b's', b'k']) {
-        return Sided::Is(Side::Ask);
-    }
-    Sided::Other
 }
 
 // The word of an index as a number of 32 bits.
-fn small(text: &[u8], index: usize) -> Number
-    ensures { (result ≡ numeral_up_to 4294967295 (word_at text.now index)) × (size_of result ≤ 4294967295) }
+fn small(text: &[u8], index: usize) -> Option<u32>
+    ensures { result ≡ numeral_up_to 4294967295 (word_at text.now index) }
 {
-    read_number(word(text, index), u32::MAX as u64)
+    let n = read_number(word(text, index), u64::from(u32::MAX))?;
+    Some(n as u32)
 }
 
-fn fill_said(
-    symbol: Number,
-    side: Sided,
-    quantity: Number,
-    price: Number,
-    commission: Signed,
-) -> Said
-    requires { (size_of symbol ≤ 4294967295) × (size_of quantity ≤ 4294967295) × (size_of price ≤ 4294967295) }
-    ensures { result ≡ fill_said symbol side quantity price commission }
+// The fill that a text of five words says.
+fn fill(text: &[u8]) -> Option<Fill>
+    ensures { fill_of result ≡ fill_line (word_at text.now 0) (word_at text.now 1) (word_at text.now 2) (word_at text.now 3) (word_at text.now 4) }
 {
-    let Number::Is(symbol) = symbol else {
-        return Said::Other;
-    };
-    let Sided::Is(side) = side else {
-        return Said::Other;
-    };
-    let Number::Is(quantity) = quantity else {
-        return Said::Other;
-    };
-    let Number::Is(price) = price else {
-        return Said::Other;
-    };
-    let Signed::Is(commission) = commission else {
-        return Said::Other;
-    };
-    Said::Fill(Fill {
-        symbol: symbol as u32,
-        side,
-        quantity: quantity as u32,
-        price: price as u32,
-        commission,
+    Some(Fill {
+        symbol: small(text, 0)?,
+        side: side(word(text, 1))?,
+        quantity: small(text, 2)?,
+        price: small(text, 3)?,
+        commission: read_signed(word(text, 4))?,
     })
 }
 
-// A text of five words.
-fn fill_line(text: &[u8]) -> Said
-    ensures { result ≡ fill_line (word_at text.now 0) (word_at text.now 1) (word_at text.now 2) (word_at text.now 3) (word_at text.now 4) }
+// The opening cash that a text of two words says.
+#[tactic(auto, using(crate::proofs::Cuts::other_word))]
+fn cash(text: &[u8]) -> Option<Amount>
+    ensures { cash_said result ≡ cash_line (word_at text.now 0) (word_at text.now 1) }
 {
-    let symbol = small(text, 0);
-    let side = side(word(text, 1));
-    let quantity = small(text, 2);
-    let price = small(text, 3);
-    let commission = read_signed(word(text, 4));
-    fill_said(symbol, side, quantity, price, commission)
-}
-
-fn cash_said(cash: Signed) -> Said
-    ensures { result ≡ cash_said cash }
-{
-    match cash {
-        Signed::Is(amount) => Said::Cash(amount),
-        Signed::Other => Said::Other,
+    match word(text, 0) {
+        b"cash" => read_signed(word(text, 1)),
+        _ => None,
     }
-}
-
-// A text of two words.
-fn cash_line(text: &[u8]) -> Said
-    ensures { result ≡ cash_line (word_at text.now 0) (word_at text.now 1) }
-{
-    if same(word(text, 0), &[b'c', b'a', b's', b'h']) {
-        return cash_said(read_signed(word(text, 1)));
-    }
-    Said::Other
 }
 
 // What the words of a text say.
+#[tactic(auto, using(crate::proofs::Says::none_say, crate::proofs::Says::two_say, crate::proofs::Says::five_say, crate::proofs::Says::others_say))]
 fn said_by(text: &[u8]) -> Said
     ensures { result ≡ said_by (words_of text.now) }
 {
     match count(text) {
         0 => Said::Nothing,
-        2 => cash_line(text),
-        5 => fill_line(text),
+        2 => cash(text).map_or(Said::Other, Said::Cash),
+        5 => fill(text).map_or(Said::Other, Said::Fill),
         _ => Said::Other,
     }
 }

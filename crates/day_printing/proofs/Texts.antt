@@ -15,9 +15,12 @@ use Rattle.told.specs.declared.Told.{Told}
 use Rattle.holding.specs.declared.Position.{Position}
 use Rattle.decimals.specs.Decimals.{decimal, Puts}
 use Rattle.decimals.proofs.Digits.{decimal-short, signed-short}
-use Rattle.decimals.proofs.Puts.{then, kept}
+use Rattle.decimals.proofs.Puts.{then, kept, front_room, rest_room}
 use Rattle.types.specs.Bytes.{bytes}
 use Rattle.day_printing.specs.Booked.{value_text, amount_text, line_text, carried_text, values_text, place_text, refusal_text, refused_text, is_all_zero, position_text, held_text, positions_text, total_text}
+
+-- how pieces are put one behind the other, and the room for each
+pub ruleset pieces = (then, front_room, rest_room)
 
 -- no byte put
 pub none-put : (at : ℕ) (o : List ℕ) → at ≤ length o → Puts [] at o o at
@@ -173,3 +176,6 @@ module _ (position : ℕ → Position) (at : ℕ) (o : List ℕ) where
         Puts (positions_text position (i + 1)) at o after v
     unfolding positions_text
     position-put p e v after x = rw (add-one i) (then _ _ _ _ _ _ _ _ w (rw e at x))
+
+-- the room behind lines, which are short
+pub ruleset lengths = (line-short, line-room, total-short, refused_short, refused_room)

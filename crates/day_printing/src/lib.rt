@@ -3,8 +3,8 @@
 #![tactic(auto)]
 
 ghost use Rattle.std.specs.Prelude.{◌≡◌, ◌+◌, ◌≤◌, length};
-ghost use Rattle.holding.specs.Rows.{position_of};
-ghost use Rattle.position.specs.Lent.{lent_ledger};
+ghost use Rattle.holding.specs.Lent.{position_in};
+ghost use Rattle.position.specs.Lent.{ledger_in};
 ghost use Rattle.decimals.specs.Decimals.{Puts};
 ghost use Rattle.day_printing.specs.Booked.{is_all_zero, position_text, held_text, positions_text, ledger_text, day_text};
 
@@ -12,17 +12,17 @@ mod numbers; // numbers.rt: a number behind a space, and a number as a line
 pub mod refusals; // refusals.rt: the refusal
 
 use decimals::{put_byte, put_number};
-use holding::{Position, rows};
+use holding::Position;
+use holding::lent::PositionRows;
 use numbers::{put_amount, put_line, put_total, put_value};
-use position::Totals;
+use position::lent::LedgerRows;
 use refusals::put_refused;
 use told::Told;
 use types::SYMBOLS;
 
-// How a day ended: the totals, the fills taken, the refusal that ended them if its number is not 0, and the line of the refused fill.
+// How a day ended: the fills taken, the refusal that ended them if its number is not 0, and the line of the refused fill.
 #[derive(Clone, Copy)]
 pub struct Ended {
-    pub totals: Totals,
     pub taken: u64,
     pub told: Told,
     pub line: u64,
@@ -36,6 +36,7 @@ fn is_all_zero(position: Position) -> bool
     (quantity == 0) & ((position.average == 0) & (realized == 0))
 }
 
+#[tactic(auto, using(crate::proofs::Texts::pieces), unfolding(crate::specs::Booked::position_text))]
 fn put_position(out: &mut [u8], at: usize, symbol: usize, position: Position) -> usize
     requires { at + length (position_text symbol position) ≤ length out.old }
     ensures { Puts (position_text symbol position) at out.old out.new result }
@@ -59,58 +60,36 @@ fn put_held(out: &mut [u8], at: usize, symbol: usize, position: Position) -> usi
 }
 
 // The positions, in the order of their symbols: each has at most 90 bytes.
-fn put_positions<'a>(
-    quantities: &'a [i64; 32],
-    averages: &'a [u32; 32],
-    realized: &'a [i64; 32],
-    out: &mut [u8],
-    at: usize,
-) -> usize
+fn put_positions(positions: PositionRows<'_>, out: &mut [u8], at: usize) -> usize
     requires { at + 2880 ≤ length out.old }
-    ensures { Puts (positions_text (position_of quantities.now averages.now realized.now) 32) at out.old out.new result }
+    ensures { Puts (positions_text (position_in positions.entry) 32) at out.old out.new result }
 {
     let mut next = at;
-    let mut i = 0;
-    while i < SYMBOLS {
-        let position = rows::at(quantities, averages, realized, i);
-        next = put_held(out, next, i, position);
-        i += 1;
+    for i in 0..SYMBOLS {
+        next = put_held(out, next, i, positions.at(i));
     }
     next
 }
 
 // Cash, commission paid, and the positions.
-fn put_ledger<'a>(
-    quantities: &'a [i64; 32],
-    averages: &'a [u32; 32],
-    realized: &'a [i64; 32],
-    totals: Totals,
-    out: &mut [u8],
-    at: usize,
-) -> usize
+#[tactic(auto, using(crate::proofs::Texts::lengths), unfolding(crate::specs::Booked::ledger_text))]
+fn put_ledger(ledger: LedgerRows<'_>, out: &mut [u8], at: usize) -> usize
     requires { at + 3000 ≤ length out.old }
-    ensures { Puts (ledger_text (lent_ledger quantities averages realized totals)) at out.old out.new result }
+    ensures { Puts (ledger_text (ledger_in ledger.entry)) at out.old out.new result }
 {
-    let second = put_total(out, at, b"cash", totals.cash);
-    let third = put_total(out, second, b"commission", totals.commission);
-    put_positions(quantities, averages, realized, out, third)
+    let second = put_total(out, at, b"cash", ledger.totals.cash);
+    let third = put_total(out, second, b"commission", ledger.totals.commission);
+    put_positions(ledger.positions, out, third)
 }
 
 // The day: it has at most 4,000 bytes.
-pub fn put_day<'a>(
-    quantities: &'a [i64; 32],
-    averages: &'a [u32; 32],
-    realized: &'a [i64; 32],
-    day: Ended,
-    out: &mut [u8],
-    at: usize,
-) -> usize
+#[tactic(auto, using(crate::proofs::Texts::lengths), unfolding(crate::specs::Booked::day_text))]
+pub fn put_day(ledger: LedgerRows<'_>, day: Ended, out: &mut [u8], at: usize) -> usize
     requires { at + 4000 ≤ length out.old }
-    ensures { Puts (day_text day.taken day.told day.line (lent_ledger quantities averages realized day.totals)) at out.old out.new result }
+    ensures { Puts (day_text day.taken day.told day.line (ledger_in ledger.entry)) at out.old out.new result }
 {
-    let totals = day.totals;
     let told = day.told;
     let second = put_line(out, at, b"taken", false, day.taken);
     let third = put_refused(told, day.line, out, second);
-    put_ledger(quantities, averages, realized, totals, out, third)
+    put_ledger(ledger, out, third)
 }

@@ -7,6 +7,7 @@ use amount::Amount;
 use decimals::{put, put_byte, put_whole};
 
 // A space and a number.
+#[tactic(auto, using(crate::proofs::Texts::pieces), unfolding(crate::specs::Booked::value_text))]
 pub fn put_value(out: &mut [u8], at: usize, negative: bool, size: u64) -> usize
     requires { at + length (value_text negative size) ≤ length out.old }
     ensures { Puts (value_text negative size) at out.old out.new result }
@@ -23,6 +24,7 @@ pub fn put_amount(out: &mut [u8], at: usize, amount: Amount) -> usize
 }
 
 // A word and a number as a line.
+#[tactic(auto, using(crate::proofs::Texts::pieces), unfolding(crate::specs::Booked::line_text))]
 pub fn put_line(out: &mut [u8], at: usize, word: &[u8], negative: bool, size: u64) -> usize
     requires { at + length (line_text word.now negative size) ≤ length out.old }
     ensures { Puts (line_text word.now negative size) at out.old out.new result }

@@ -7,7 +7,7 @@ use crate::numbers::put_value;
 use decimals::{put, put_byte};
 use told::{Told, Whole};
 
-// A value, if it is carried.
+// A value, if it is carried: no Option, since the values stand beside their count in what was told.
 fn put_carried(out: &mut [u8], at: usize, is: bool, value: Whole) -> usize
     requires { at + length (carried_text is value) ≤ length out.old }
     ensures { Puts (carried_text is value) at out.old out.new result }
@@ -18,6 +18,7 @@ fn put_carried(out: &mut [u8], at: usize, is: bool, value: Whole) -> usize
     at
 }
 
+#[tactic(auto, using(crate::proofs::Texts::pieces), unfolding(crate::specs::Booked::values_text))]
 fn put_values(out: &mut [u8], at: usize, told: Told) -> usize
     requires { at + length (values_text told) ≤ length out.old }
     ensures { Puts (values_text told) at out.old out.new result }
@@ -29,6 +30,7 @@ fn put_values(out: &mut [u8], at: usize, told: Told) -> usize
     put_carried(out, fourth, 3 < count, told.fourth)
 }
 
+#[tactic(auto, using(crate::proofs::Texts::pieces), unfolding(crate::specs::Booked::place_text))]
 fn put_place(out: &mut [u8], at: usize, number: u64, line: u64) -> usize
     requires { at + length (place_text number line) ≤ length out.old }
     ensures { Puts (place_text number line) at out.old out.new result }
@@ -39,6 +41,7 @@ fn put_place(out: &mut [u8], at: usize, number: u64, line: u64) -> usize
     put_value(out, second, false, line)
 }
 
+#[tactic(auto, using(crate::proofs::Texts::pieces), unfolding(crate::specs::Booked::refusal_text))]
 fn put_refusal(out: &mut [u8], at: usize, told: Told, line: u64) -> usize
     requires { at + length (refusal_text told line) ≤ length out.old }
     ensures { Puts (refusal_text told line) at out.old out.new result }

@@ -1,12 +1,14 @@
 -- One line taken: what is kept then is what was said before it, and then the line.
 use Prim.Native.Nat.{ℕ, ◌+◌, ◌*◌, ◌≤◌, ◌<◌}
-use mathlib.Core.Bool.{Bool, true, false, cond, true≢false}
-use mathlib.Core.Path.{◌≡◌, refl, sym, ◌∙◌}
+use mathlib.Core.Bool.{true}
+use mathlib.Core.Path.{◌≡◌, refl, sym, ap, ◌∙◌}
 use mathlib.Core.List.{List, [], ◌∷◌, ◌++◌}
 use native.Mathlib.Omega.{arith}
 use native.Mathlib.Numerals.{add-one}
-use borrow.Author.Tests.{ltb-true, ne_eqb, lt-ltb}
-use lib.Dec.{eqb, ltb}
+use borrow.Author.Tests.{ltb-true, lt-ltb}
+use lib.Dec.{ltb}
+use Rattle.std.specs.Option.{is_some}
+use Rattle.std.specs.Prelude.{Option, Some, None}
 use lib.ListN.{length, take, set, length-set}
 use lib.Seq.{length-sets, take-suc-set}
 use Rattle.amount.specs.declared.Amount.{Amount}
@@ -18,19 +20,23 @@ use Rattle.day_lines.specs.declared.Said.TheVariants as L
 use Rattle.day_lines.specs.Words.{spoken, words}
 use Rattle.day_lines.specs.Lines.{said}
 use Rattle.day_lines.proofs.Fits.{Small, SmallIn, said_small}
-use Rattle.day_keeping.specs.Inner.Keeping.{Kept, spoilt, with, line_taken, line_ended}
+use Rattle.day_keeping.specs.Inner.Keeping.{is_going, is_good, Kept, spoilt, with, line_taken, line_ended}
 use Rattle.day_texts.specs.Texts.{Read, unopened, day, no_day, and_line}
 use Rattle.day_texts.specs.Kept.{read_kept}
 use Rattle.day_texts.proofs.Numbers.{kept_more, kept-count}
 
 -- what is kept, as the lines leave it
 pub record Stands (k : Kept) : Type 0 where
-  pub fills : k.day.fills ≤ 100000
+  pub fills : k.fills ≤ 100000
   pub numbers : length k.numbers ≡ 500000
   pub lines : length k.lines ≡ 100000
-  pub none : eqb k.day.opened 0 ≡ true → k.day.fills ≡ 0
-  pub line : 0 < k.day.line
-  pub going : k.day.more ≡ k.day.good
+  pub none : k.day.opening ≡ None → k.fills ≡ 0
+  pub going : is_going k.day.reading ≡ is_good k.day.reading
+
+-- a case on what may be there, with what it is
+by_option : {A P : Type 0} (o : Option A) → (o ≡ None → P) → ((x : A) → o ≡ Some x → P) → P
+by_option None f g = f refl
+by_option (Some x) f g = g x refl
 
 -- ── what is said ──
 
@@ -40,30 +46,28 @@ none_after unopened n = refl
 none_after (day d) n = refl
 none_after no_day n = refl
 
-module _ (k : Kept) (w : Stands k) (g : k.day.good ≡ true) where
+module _ (k : Kept) (w : Stands k) (g : is_good k.day.reading ≡ true) where
   cash_read : (c : Amount) → read_kept (line_taken (L.Cash c) k) ≡ and_line (read_kept k) k.day.line (L.Cash c)
   unfolding first_fills
   cash_read c =
-      by (eqb k.day.opened 0)
-      (λ t. let l : eqb k.day.line 0 ≡ false = ne_eqb k.day.line 0 (λ e. omega (arith, w.line)) in rw (t, g, l, w.none t))
-      (λ t. rw (t, g))
+      by_option k.day.opening (λ e. rw (e, g, w.none e)) (λ o e. rw (e, g))
 
   -- the line of the fill, behind those that are kept
-  lines_more : k.day.fills < 100000 → take (k.day.fills + 1) (set k.lines k.day.fills k.day.line) ≡ take k.day.fills k.lines ++ (k.day.line ∷ [])
-  lines_more h = rw (add-one k.day.fills) (take-suc-set k.lines k.day.fills k.day.line (omega (arith, w.lines)))
+  lines_more : k.fills < 100000 → take (k.fills + 1) (set k.lines k.fills k.day.line) ≡ take k.fills k.lines ++ (k.day.line ∷ [])
+  lines_more h = rw (add-one k.fills) (take-suc-set k.lines k.fills k.day.line (omega (arith, w.lines)))
 
   fill_read : (f : Fill) → Small f → read_kept (line_taken (L.Fill f) k) ≡ and_line (read_kept k) k.day.line (L.Fill f)
   fill_read f s =
-      let n : length (fills_by (take (5 * k.day.fills) k.numbers)) ≡ k.day.fills = kept-count k.numbers k.day.fills (omega (arith, w.fills, w.numbers)) in
-      by (eqb k.day.opened 0)
-      (λ t. rw (t, g))
-      (λ t.
-      by (ltb k.day.fills 100000)
+      let n : length (fills_by (take (5 * k.fills) k.numbers)) ≡ k.fills = kept-count k.numbers k.fills (omega (arith, w.fills, w.numbers)) in
+      by_option k.day.opening
+      (λ e. rw (e, g))
+      (λ o e.
+      by (ltb k.fills 100000)
       (λ r.
-      let h : k.day.fills < 100000 = ltb-true k.day.fills 100000 r in
-      let m = kept_more k.numbers k.day.fills f (omega (arith, w.numbers)) s in
-      rw (t, r, g, t, n, r, m, lines_more h))
-      (λ r. rw (t, g, n, r)))
+      let h : k.fills < 100000 = ltb-true k.fills 100000 r in
+      let m = kept_more k.numbers k.fills f (omega (arith, w.numbers)) s in
+      rw (e, r, g, n, r, m, lines_more h))
+      (λ r. rw (e, r, g, n, r)))
 
   pub line_read : (s : Said) → SmallIn s → read_kept (line_taken s k) ≡ and_line (read_kept k) k.day.line s
   line_read L.Nothing x = refl
@@ -76,42 +80,38 @@ module _ (k : Kept) (w : Stands k) (g : k.day.good ≡ true) where
 -- the line that is read stays the same
 pub same_line : (s : Said) (k : Kept) → (line_taken s k).day.line ≡ k.day.line
 same_line L.Nothing k = refl
-same_line (L.Cash c) k = by (eqb k.day.opened 0) (λ t. rw t) (λ t. rw t)
+same_line (L.Cash c) k = by (is_some k.day.opening) (λ t. rw t) (λ t. rw t)
 same_line (L.Fill f) k =
-    by (eqb k.day.opened 0)
+    by (is_some k.day.opening)
+    (λ t. by (ltb k.fills 100000) (λ r. rw (t, r)) (λ r. rw (t, r)))
     (λ t. rw t)
-    (λ t. by (ltb k.day.fills 100000) (λ r. rw (t, r)) (λ r. rw (t, r)))
 same_line L.Other k = refl
 
 module _ (k : Kept) (w : Stands k) where
   spoilt_stands : Stands (with k (spoilt k.day))
-  spoilt_stands = record { fills = w.fills; numbers = w.numbers; lines = w.lines; none = w.none; line = w.line; going = refl }
+  spoilt_stands = record { fills = w.fills; numbers = w.numbers; lines = w.lines; none = w.none; going = refl }
 
   taken_stands : (s : Said) → Stands (line_taken s k)
   taken_stands L.Nothing = w
   taken_stands (L.Cash c) =
-      by (eqb k.day.opened 0)
-      (λ t. rw t (record { fills = w.fills; numbers = w.numbers; lines = w.lines; none = λ e. w.none t; line = w.line; going = w.going }))
-      (λ t. rw t spoilt_stands)
+      by_option k.day.opening
+      (λ e. rw e (record { fills = w.fills; numbers = w.numbers; lines = w.lines; none = λ _. w.none e; going = w.going }))
+      (λ o e. rw (ap is_some e) spoilt_stands)
   taken_stands (L.Fill f) =
-      by (eqb k.day.opened 0)
-      (λ t. rw t spoilt_stands)
-      (λ t.
-      by (ltb k.day.fills 100000)
+      by_option k.day.opening
+      (λ e. rw (ap is_some e) spoilt_stands)
+      (λ o e.
+      by (ltb k.fills 100000)
       (λ r.
-      let h : k.day.fills < 100000 = ltb-true k.day.fills 100000 r in
-      rw (t, r) (record {
+      let h : k.fills < 100000 = ltb-true k.fills 100000 r in
+      rw (e, r) (record {
         fills = omega arith;
-        numbers = length-sets k.numbers (5 * k.day.fills) (fill_numbers f) ∙ w.numbers;
-        lines = length-set k.lines k.day.fills k.day.line ∙ w.lines;
-        none = λ e. absurd (differ t e);
-        line = w.line;
+        numbers = length-sets k.numbers (5 * k.fills) (fill_numbers f) ∙ w.numbers;
+        lines = length-set k.lines k.fills k.day.line ∙ w.lines;
+        none = λ f. cc;
         going = w.going;
       }))
-      (λ r. rw (t, r) spoilt_stands))
-    where
-      differ : {b : Bool} → b ≡ false → b ≡ true → ⊥
-      differ e f = true≢false (sym f ∙ e)
+      (λ r. rw (ap is_some e, r) spoilt_stands))
   taken_stands L.Other = spoilt_stands
 
 -- a line that has ended, and the next begun
@@ -119,13 +119,10 @@ module _ (bytes : List ℕ) (k : Kept) (w : Stands k) where
   pub ended_stands : Stands (line_ended bytes k)
   ended_stands =
       let m = taken_stands k w (said bytes) in
-      record { fills = m.fills; numbers = m.numbers; lines = m.lines; none = m.none; line = after (line_taken (said bytes) k).day.line m.line; going = m.going }
-    where
-      after : (n : ℕ) → 0 < n → 0 < cond (ltb n 18446744073709551615) (n + 1) n
-      after n h = by (ltb n 18446744073709551615) (λ t. rw t (omega arith)) (λ t. rw t h)
+      record { fills = m.fills; numbers = m.numbers; lines = m.lines; none = m.none; going = m.going }
 
   pub ended-line : k.day.line < 18446744073709551615 → (line_ended bytes k).day.line ≡ k.day.line + 1
   ended-line h = rw (same_line (said bytes) k, lt-ltb k.day.line 18446744073709551615 h)
 
-  pub ended_read : k.day.good ≡ true → read_kept (line_ended bytes k) ≡ and_line (read_kept k) k.day.line (said bytes)
+  pub ended_read : is_good k.day.reading ≡ true → read_kept (line_ended bytes k) ≡ and_line (read_kept k) k.day.line (said bytes)
   ended_read g = line_read k w g (said bytes) (said_small (words (spoken bytes)))

@@ -11,8 +11,10 @@ use Rattle.types.proofs.Booleans.{by}
 use Rattle.day_lines.specs.Lines.{said}
 use Rattle.day_lines.specs.declared.Said.{Said}
 use Rattle.day_lines.specs.declared.Said.TheVariants as L
-use Rattle.day_keeping.specs.Inner.Keeping.{Kept, kept, spoilt, with, line_ended}
-use Rattle.day_collecting.specs.Inner.Collecting.{last_ended, one_held, text_taken, unread}
+use Rattle.day_keeping.specs.declared.Reading.{Reading}
+use Rattle.day_keeping.specs.declared.Reading.TheVariants.{Going, Ended, Failed}
+use Rattle.day_keeping.specs.Inner.Keeping.{is_going, is_good, ended, finished, Kept, spoilt, with, line_ended}
+use Rattle.day_collecting.specs.Inner.Collecting.{last_ended, none_kept, text_taken}
 use Rattle.day_collecting.proofs.Texts.{stopped, byte_ends, byte_held, byte_past, at_end}
 use Rattle.day_texts.specs.Texts.{lines_of, line_says, Read, unopened, no_day, and_line, read_on}
 use Rattle.day_texts.specs.Kept.{read_kept, KeptAsSaid}
@@ -41,9 +43,18 @@ too_long_lem : (r : Read) (n : ℕ) (l : List ℕ) (ls : List (List ℕ)) → 40
 unfolding read_on
 too_long_lem r n l ls h = rw (lt-leb (length l) 4096 h, none_after r n) (no_more (n + 1) ls)
 
-module _ (k : Kept) (w : Stands k) (g : k.day.good ≡ true) (held : List ℕ) (h : length held ≤ 4096) where
+-- the end of the text keeps what was read
+finished_read : (k : Kept) → read_kept (with k (finished k.day)) ≡ read_kept k
+finished_read k = rw (go k.day.reading)
+  where
+    go : (r : Reading) → is_good (ended r) ≡ is_good r
+    go Going = refl
+    go Ended = refl
+    go Failed = refl
+
+module _ (k : Kept) (w : Stands k) (g : is_good k.day.reading ≡ true) (held : List ℕ) (h : length held ≤ 4096) where
   -- more is read
-  going : k.day.more ≡ true
+  going : is_going k.day.reading ≡ true
   going = w.going ∙ g
 
   -- what the lines before it say, and then these
@@ -56,14 +67,14 @@ module _ (k : Kept) (w : Stands k) (g : k.day.good ≡ true) (held : List ℕ) (
   at_last = ap read_kept (at_end k held going) ∙ last held h
     where
       last : (l : List ℕ) → length l ≤ 4096 → read_kept (last_ended l k) ≡ then (alone l)
-      last [] m = refl
-      last (b ∷ bs) m = ended_read (b ∷ bs) k w g ∙ sym (next (read_kept k) k.day.line (b ∷ bs) [] m)
+      last [] m = finished_read k
+      last (b ∷ bs) m = finished_read (line_ended (b ∷ bs) k) ∙ ended_read (b ∷ bs) k w g ∙ sym (next (read_kept k) k.day.line (b ∷ bs) [] m)
 
   module _ (b : ℕ) (bs : List ℕ) where
     -- a line feed: the line that is held has ended
     at-feed :
         b ≡ 10 → k.day.line < 18446744073709551615 →
-        ((line_ended held k).day.good ≡ true → read_kept (text_taken (line_ended held k) [] bs) ≡ read_on (read_kept (line_ended held k)) (line_ended held k).day.line (behind [] (lines_of bs))) →
+        (is_good (line_ended held k).day.reading ≡ true → read_kept (text_taken (line_ended held k) [] bs) ≡ read_on (read_kept (line_ended held k)) (line_ended held k).day.line (behind [] (lines_of bs))) →
         read_kept (text_taken k held (b ∷ bs)) ≡ then (behind held (lines_of (b ∷ bs)))
     at-feed e c rest =
         ap read_kept (byte_ends k held b going e (line_ended held k) [] refl refl bs) ∙ after ∙
@@ -72,7 +83,7 @@ module _ (k : Kept) (w : Stands k) (g : k.day.good ≡ true) (held : List ℕ) (
       where
         after : read_kept (text_taken (line_ended held k) [] bs) ≡ read_on (read_kept (line_ended held k)) (k.day.line + 1) (lines_of bs)
         after =
-            by (line_ended held k).day.good
+            by (is_good (line_ended held k).day.reading)
             (λ t.
             rest t ∙ ap (λ (n : ℕ). read_on (read_kept (line_ended held k)) n (behind [] (lines_of bs))) (ended-line held k w c) ∙
             ap (read_on (read_kept (line_ended held k)) (k.day.line + 1)) (behind-none (lines_of bs)))
@@ -84,7 +95,7 @@ module _ (k : Kept) (w : Stands k) (g : k.day.good ≡ true) (held : List ℕ) (
     -- another byte is held
     at_byte :
         (b ≡ 10 → ⊥) → length held < 4096 →
-        (let l = with k (one_held k.day) in read_kept (text_taken l (held ++ (b ∷ [])) bs) ≡ then (behind (held ++ (b ∷ [])) (lines_of bs))) →
+        read_kept (text_taken k (held ++ (b ∷ [])) bs) ≡ then (behind (held ++ (b ∷ [])) (lines_of bs)) →
         read_kept (text_taken k held (b ∷ bs)) ≡ then (behind held (lines_of (b ∷ bs)))
     at_byte n l rest = ap read_kept (byte_held k held b going n l bs) ∙ rest ∙ sym (ap then (byte_kept held b bs (ne_eqb b 10 n)))
 
@@ -97,7 +108,7 @@ module _ (k : Kept) (w : Stands k) (g : k.day.good ≡ true) (held : List ℕ) (
 
 -- the bytes behind those that are held
 from :
-    (text held : List ℕ) (k : Kept) → Stands k → k.day.good ≡ true → length held ≤ 4096 → k.day.line + length text ≤ 18446744073709551615 →
+    (text held : List ℕ) (k : Kept) → Stands k → is_good k.day.reading ≡ true → length held ≤ 4096 → k.day.line + length text ≤ 18446744073709551615 →
     read_kept (text_taken k held text) ≡ read_on (read_kept k) k.day.line (behind held (lines_of text))
 from [] held k w g h c = at_last k w g held h
 from (b ∷ bs) held k w g h c =
@@ -108,13 +119,11 @@ from (b ∷ bs) held k w g h c =
     (λ r.
     let l : length held < 4096 = ltb-true (length held) 4096 r in
     at_byte k w g held h b bs (eqb-false b 10 t) l
-    (from bs (held ++ (b ∷ [])) (with k (one_held k.day))
-    (record { fills = w.fills; numbers = w.numbers; lines = w.lines; none = w.none; line = w.line; going = w.going })
-    g (simp length-append (omega arith)) (omega arith)))
+    (from bs (held ++ (b ∷ [])) k w g (simp length-append (omega arith)) (omega arith)))
     (λ r. at_past k w g held h b bs (eqb-false b 10 t) (ltb-false (length held) 4096 r)))
 
 pub kept_as_said : KeptAsSaid
 kept_as_said text k o =
-    let start = kept unread o.numbers o.lines in
-    let w : Stands start = record { fills = omega arith; numbers = o.room.0; lines = o.room.1; none = λ _. refl; line = omega arith; going = refl } in
+    let start = none_kept o.numbers o.lines in
+    let w : Stands start = record { fills = omega arith; numbers = o.room.0; lines = o.room.1; none = λ _. refl; going = refl } in
     ap read_kept (sym o.whole) ∙ from text [] start w refl (omega arith) (omega (arith, o.counted)) ∙ ap (read_on unopened 1) (behind-none (lines_of text))

@@ -1,12 +1,14 @@
 -- Laws of bytes put into memory: a piece behind a piece is one piece, and the length is kept.
-use Prim.Native.Nat.{ℕ, suc, ◌+◌, ◌≤◌, ◌<◌}
+use Prim.Native.Nat.{ℕ, suc, ◌+◌, ◌≤◌}
 use mathlib.Core.Path.{◌≡◌, refl, sym, ap, ◌∙◌}
 use mathlib.Core.List.{List, [], ◌∷◌, ◌++◌}
 use native.Mathlib.Omega.{arith}
 use native.Mathlib.Nat.{add-zero}
-use native.Mathlib.Numerals.{add-one}
-use lib.ListN.{length, get_or, set, drop, length-append, drop_of_length-le}
-use lib.Seq.{sets, length-sets, drop-cons}
+use lib.ListN.{length, set, take, drop, length-append}
+use lib.Seq.{sets, length-sets, take-length}
+use borrow.Rule.Slice.PartMut.{put_mid}
+use Rattle.std.proofs.lemmas.Slice.{put_mid-paste}
+use Rattle.std.proofs.lemmas.List.Edits.{sets-eq}
 use Rattle.decimals.specs.Decimals.{Puts}
 
 pub sets_append : (xs ys o : List ℕ) (at : ℕ) → sets o at (xs ++ ys) ≡ sets (sets o at xs) (at + length xs) ys
@@ -28,21 +30,18 @@ then xs ys o p q at m n a b =
 pub kept : (xs o p : List ℕ) (at n : ℕ) → Puts xs at o p n → length p ≡ length o
 kept xs o p at n a = rw a.stored (length-sets o at xs)
 
--- a turn of the loop that puts: the byte at i is stored, and those behind it are left
-pub put-turn :
-    (xs o out : List ℕ) (at i : ℕ) → i < length xs → sets out (at + i) (drop i xs) ≡ sets o at xs →
-    sets (set out (at + i) (get_or xs i 0)) (at + (i + 1)) (drop (i + 1) xs) ≡ sets o at xs
-put-turn xs o out at i h e =
-    let n : at + suc i ≡ suc (at + i) = omega arith in
-    rw (add-one i, n) (sym (ap (sets out (at + i)) (drop-cons xs i 0 h)) ∙ e)
-
--- its end: nothing is left
-pub put_end : (xs o out : List ℕ) (at i : ℕ) → i ≤ length xs → length xs ≤ i → at + length xs ≤ length out → sets out (at + i) (drop i xs) ≡ sets o at xs → Puts xs at o out (at + i)
-put_end xs o out at i h l f e =
+-- a piece copied over a part of the memory
+pub put_piece :
+    (xs o ys : List ℕ) (at k : ℕ) → at + length xs ≤ length o → ys ≡ xs → k ≡ length xs → Puts xs at o (put_mid at k o ys) (at + length xs)
+put_piece xs o ys at k h e n =
+    let w : put_mid at k o ys ≡ sets o at xs =
+    put_mid-paste at k o ys xs (length xs) e (sym n) refl
+    ∙ ap (λ (l : List ℕ). take at o ++ l ++ drop (at + length xs) o) (take-length xs)
+    ∙ sym (sets-eq xs o at h) in
     record {
-      stored = sym (ap (sets out (at + i)) (drop_of_length-le xs l)) ∙ e;
-      behind = omega arith;
-      fits = omega arith;
+      stored = w;
+      behind = refl;
+      fits = rw w (rw (length-sets o at xs) h);
     }
 
 -- the room behind a piece

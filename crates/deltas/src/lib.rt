@@ -3,16 +3,19 @@
 // leaves every row alone.
 #![tactic(auto)]
 
-ghost use Rattle.std.specs.Prelude.{◌≡◌, true, ◌≤◌, length, take, get_or};
-ghost use Rattle.types.specs.declared.Outcome.TheVariants.{Done};
+ghost use Rattle.std.specs.Prelude.{◌≡◌, true, ◌≤◌, length, take, get_or, leb, Ok};
 ghost use Rattle.levels.specs.Order.{in_order};
+ghost use Rattle.levels.specs.Lent.{prices_in};
 ghost use Rattle.changes.specs.Inner.Edits.{EditFits, edit_of};
-ghost use Rattle.deltas.specs.Delta.{delta_fits, action_number, action_if};
-ghost use Rattle.deltas.specs.Inner.Deciding.{meets, inverted, action_step, sequence_after, outcome_of, count_of, with_count, step_at, Stepped};
+ghost use Rattle.types.specs.Replies.{done, if_within};
+ghost use Rattle.types.specs.Answers.{reply_of};
+ghost use Rattle.deltas.specs.Delta.{delta_fits, action_number, action_if, action_named};
+ghost use Rattle.deltas.specs.Inner.Deciding.{meets, inverted, action_step, count_of, with_count, step_at, Stepped};
 ghost use Rattle.deltas.specs.Inner.Admitting.{Admission};
 
-use changes::{Edit, Step};
-use types::{Outcome, Price, Quantity, Refusal, Side};
+use changes::Edit;
+use levels::ordered::Ordered;
+use types::{Price, Quantity, Refusal, Side};
 
 // Whether a delta sets or removes a level.
 #[derive(Clone, Copy)]
@@ -40,32 +43,42 @@ pub struct Counts {
     pub sequence: u64,
 }
 
-// What a delta leaves beside the rows.
-#[derive(Clone, Copy)]
-pub struct RowsApplied {
-    pub counts: Counts,
-    pub outcome: Outcome,
-}
+// Remove where the flag is set, else Set.
+impl From<bool> for DeltaAction {
+    ghost from_gives = { λ remove action. action ≡ action_if remove };
 
-impl DeltaAction {
-    // Remove where the flag is set, else Set.
-    pub fn of(remove: bool) -> DeltaAction
-        ensures { result ≡ action_if remove }
-    {
+    fn from(remove: bool) -> DeltaAction {
         if remove {
             DeltaAction::Remove
         } else {
             DeltaAction::Set
         }
     }
+}
 
-    // 0 for Set, 1 for Remove.
-    pub fn number(self) -> u64
-        ensures { result ≡ action_number self }
-    {
-        match self {
+// 0 for Set, 1 for Remove.
+impl From<DeltaAction> for u64 {
+    ghost from_gives = { λ action n. n ≡ action_number action };
+
+    fn from(action: DeltaAction) -> u64 {
+        match action {
             DeltaAction::Set => 0,
             DeltaAction::Remove => 1,
+        }
+    }
+}
+
+// The action of a number; 2 for one that names none.
+impl TryFrom<u64> for DeltaAction {
+    type Error = Refusal;
+
+    ghost try_from_gives = { λ n action. reply_of action ≡ if_within (leb n 1) (done (action_named n)) };
+
+    fn try_from(n: u64) -> Result<DeltaAction, Refusal> {
+        match n {
+            0 => Ok(DeltaAction::Set),
+            1 => Ok(DeltaAction::Remove),
+            _ => Err(Refusal::OutOfLimits),
         }
     }
 }
@@ -116,24 +129,24 @@ pub fn delta_fits(action: DeltaAction, price: Price, quantity: Quantity) -> bool
 }
 
 // Whether a delta may be done to a book of this sequence, in the order of the refusals' numbers: its limits, then its sequence.
-pub fn admit(delta: BookDelta, held: u64) -> Outcome
+pub fn admit(delta: BookDelta, held: u64) -> Result<(), Refusal>
     ensures { Admission result held delta }
 {
     let action = delta.action;
     let next = delta.sequence;
     if !delta_fits(action, delta.price, delta.quantity) {
-        return Outcome::Refused(Refusal::OutOfLimits);
+        return Err(Refusal::OutOfLimits);
     }
     if held == types::LAST_SEQUENCE {
-        return Outcome::Refused(Refusal::LastSequence);
+        return Err(Refusal::LastSequence);
     }
     if next != held + 1 {
-        return Outcome::Refused(Refusal::SequenceMismatch {
+        return Err(Refusal::SequenceMismatch {
             expected: held + 1,
             got: next,
         });
     }
-    Outcome::Done
+    Ok(())
 }
 
 // Whether `price` reaches or passes the other side's best price, 0 for none.
@@ -166,53 +179,23 @@ fn inverted(side: Side, price: Price, best: Price) -> Refusal
     }
 }
 
-// The action on a side of `n` levels, where the other side's best price is `best`.
+// The action on a side of these prices, where the other side's best price is `best`.
 fn action_step(
     action: DeltaAction,
-    side: Side,
-    prices: &[u32; 128],
-    n: usize,
+    prices: Ordered<'_>,
     best: Price,
     price: Price,
-) -> Step
-    requires { (length prices.now ≡ 128) × (n ≤ 128) × (in_order side (take n prices.now) ≡ true) }
-    ensures { result ≡ action_step action side (take n prices.now) n best price }
+) -> Result<Edit, Refusal>
+    ensures { result ≡ action_step action prices.entry.side (prices_in prices.entry) prices.entry.count best price }
 {
     match action {
         DeltaAction::Set => {
-            if meets(side, price, best) {
-                return Step::Refuse(inverted(side, price, best));
+            if meets(prices.side, price, best) {
+                return Err(inverted(prices.side, price, best));
             }
-            changes::plan_set(side, prices, n, price)
+            changes::plan_set(prices, price)
         }
-        DeltaAction::Remove => Step::Do(changes::plan_remove(side, prices, n, price)),
-    }
-}
-
-fn edit_of(step: Step) -> Edit
-    ensures { result ≡ edit_of step }
-{
-    match step {
-        Step::Do(edit) => edit,
-        Step::Refuse(_) => Edit::Keep,
-    }
-}
-
-fn sequence_after(step: Step, held: u64, next: u64) -> u64
-    ensures { result ≡ sequence_after step held next }
-{
-    match step {
-        Step::Do(_) => next,
-        Step::Refuse(_) => held,
-    }
-}
-
-fn outcome_of(step: Step) -> Outcome
-    ensures { result ≡ outcome_of step }
-{
-    match step {
-        Step::Do(_) => Outcome::Done,
-        Step::Refuse(why) => Outcome::Refused(why),
+        DeltaAction::Remove => Ok(changes::plan_remove(prices, price)),
     }
 }
 
@@ -223,28 +206,28 @@ pub fn top(prices: &[u32; 128]) -> Price
     prices[0]
 }
 
-// A delta that is admitted, to a side, where the other side's best price is `best`: its step is decided, then done on both rows.
+// A delta that is admitted, to a side, where the other side's best price is `best`: its step is decided, then done on both rows and the counts. A
+// refusal leaves them as they were.
 pub fn apply_side(
     side: Side,
     prices: &mut [u32; 128],
     quantities: &mut [u32; 128],
     best: Price,
-    counts: Counts,
+    counts: &mut Counts,
     delta: BookDelta,
-) -> RowsApplied
-    requires { (length quantities.old ≡ 128) × ((length prices.old ≡ 128) × (count_of side counts ≤ 128) × (in_order side (take (count_of side counts) prices.old) ≡ true)) × EditFits (edit_of (step_at side prices.old counts best delta)) (count_of side counts) × Admission Done counts.sequence delta }
-    ensures { Stepped side (step_at side prices.old counts best delta) counts delta prices.old quantities.old prices.new quantities.new result }
+) -> Result<(), Refusal>
+    requires { (length quantities.old ≡ 128) × ((length prices.old ≡ 128) × (count_of side counts.old ≤ 128) × (in_order side (take (count_of side counts.old) prices.old) ≡ true)) × EditFits (edit_of (step_at side prices.old counts.old best delta)) (count_of side counts.old) × Admission (Ok tt) counts.old.sequence delta }
+    ensures { Stepped side (step_at side prices.old counts.old best delta) counts.old delta prices.old quantities.old prices.new quantities.new counts.new result }
 {
     let n = counts.of(side);
-    let action = delta.action;
-    let step = action_step(action, side, prices, n, best, delta.price);
-    let edit = edit_of(step);
+    let ordered = Ordered {
+        side,
+        prices: &*prices,
+        count: n,
+    };
+    let edit = action_step(delta.action, ordered, best, delta.price)?;
     changes::edit_row(prices, edit, n, delta.price);
     changes::edit_row(quantities, edit, n, delta.quantity);
-    let after = changes::edit_count(edit, n);
-    let sequence = sequence_after(step, counts.sequence, delta.sequence);
-    RowsApplied {
-        counts: counts.with(side, after, sequence),
-        outcome: outcome_of(step),
-    }
+    *counts = counts.with(side, changes::edit_count(edit, n), delta.sequence);
+    Ok(())
 }

@@ -28,7 +28,9 @@ use Rattle.asked.specs.declared.VolumeRatio.TheVariants.{Imbalance}
 use Rattle.asked.specs.declared.Trade.TheVariants.{VwapForQty, PriceImpact}
 use Rattle.questions.specs.declared.Question.TheVariants.{OfSide, OfTops, OfVolumes, Traded}
 use Rattle.questions.specs.Questions.{weighted_mid, imbalance, vwap_for_qty, price_impact, price_at_volume}
-use Rattle.questions.specs.Asked.{Value, number, ratio, book_ask}
+use Rattle.questions.specs.declared.Value.{Value}
+use Rattle.questions.specs.declared.Value.TheVariants as V
+use Rattle.questions.specs.Asked.{book_ask}
 use Rattle.holding.specs.declared.Fill.{Fill}
 use Rattle.holding.specs.Holding.{is_position, is_fill, average_after, position_after}
 use Rattle.holding.specs.Rows.{are_positions}
@@ -84,11 +86,11 @@ sell n price commission = record { symbol = 0; side = Ask; quantity = n; price =
 
 -- this numerator over this denominator, in plain numbers
 abbrev quotient : ℕ → ℕ → Output
-quotient n d = replied (done (ratio (Q.quotient n d)))
+quotient n d = replied (done (V.Ratio (Q.quotient n d)))
 
 -- a price
 abbrev price : ℕ → Output
-price p = replied (done (number p))
+price p = replied (done (V.Number p))
 
 -- a refusal of a question, with what it carries
 abbrev refusal : ℕ → List ℤ → Output

@@ -1,3 +1,3 @@
 pub mod Worths
-pub mod Frames
+pub mod Kept
 pub mod Fills

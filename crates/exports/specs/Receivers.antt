@@ -6,12 +6,12 @@ use Rattle.told.specs.Numbers.{told, tell, nothing}
 use Rattle.deltas.specs.declared.Counts.{Counts}
 use Rattle.listings.specs.declared.Listing.{Listing}
 use Rattle.orderbook.specs.Lent.{Row, book_at, lent_book}
-use Rattle.questions.specs.Asked.{Value}
+use Rattle.questions.specs.declared.Value.{Value}
 use Rattle.receiver.specs.declared.Receiver.{Receiver}
 use Rattle.receiver.specs.Turns.{Turn, taken}
 use Rattle.receiver_questions.specs.Gate.{receiver_ask, receiver_numbers}
 use Rattle.names.specs.Names.{question_by, listing_by, reply_to}
-use Rattle.names.specs.Kinds.{state_if, state_number}
+use Rattle.receiver.specs.Numbers.{state_if, state_number}
 use Rattle.exports.specs.declared.Held.{Held}
 
 -- the record that bid prices, bid quantities, ask prices, ask quantities, a state's number and the counts make

@@ -12,6 +12,7 @@ ghost use Rattle.numbered.specs.Memory.{told_left};
 
 use deltas::Counts;
 use numbered::CountsTold;
+use orderbook::lent::BookRows;
 use orderbook::{OrderBook, rows};
 use told::Told;
 
@@ -99,7 +100,13 @@ pub extern "C" fn wermazul_ask<'a>(
 ) -> Told
     ensures { result ≡ tell values_in (asked_by (lent_book bp bq ap aq counts) question side small large) }
 {
-    numbered::ask(bp, bq, ap, aq, counts, question, side, small, large)
+    numbered::ask(
+        BookRows::of(bp, bq, ap, aq, counts),
+        question,
+        side,
+        small,
+        large,
+    )
 }
 
 // The places that a listing fills in memory of `room` places.
@@ -118,7 +125,14 @@ pub extern "C" fn wermazul_places<'a>(
 ) -> Told
     ensures { result ≡ tell one_number (map_reply length (fitted room (listed_by (lent_book bp bq ap aq counts) listing side from to))) }
 {
-    numbered::places(bp, bq, ap, aq, counts, listing, side, from, to, room)
+    numbered::places(
+        BookRows::of(bp, bq, ap, aq, counts),
+        listing,
+        side,
+        from,
+        to,
+        room,
+    )
 }
 
 // Writes a listing to the front of lent memory: price, quantity, price, quantity.
@@ -137,5 +151,12 @@ pub extern "C" fn wermazul_list<'a>(
 ) -> Told
     ensures { record { answer = result; memory = out.new } ≡ told_left (written (listed_by (lent_book bp bq ap aq counts) listing side from to) out.old) }
 {
-    numbered::list(bp, bq, ap, aq, counts, listing, side, from, to, out)
+    numbered::list(
+        BookRows::of(bp, bq, ap, aq, counts),
+        listing,
+        side,
+        from,
+        to,
+        out,
+    )
 }

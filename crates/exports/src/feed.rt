@@ -13,9 +13,9 @@ ghost use Rattle.numbered.specs.Memory.{told_left};
 
 use crate::LineTold;
 use deltas::{BookDelta, Counts};
-use frames::DeltaAnswer;
-use lines::FrameAnswer;
+use lines::ReadFrame;
 use orderbook::OrderBook;
+use orderbook::lent::BookRows;
 use told::Told;
 
 // What a line is: 0 and its kind, 1 for a delta and 2 for a snapshot, or 12.
@@ -23,10 +23,7 @@ use told::Told;
 pub extern "C" fn wermazul_line_kind(line: &[u8]) -> Told
     ensures { result ≡ tell kind_of (read_as (decode line.now)).reply }
 {
-    let read = lines::read_frame(line);
-    let answer = read.answer;
-    let book = read.book;
-    names::kind_told(answer, book)
+    names::kind_told(lines::read_frame(line))
 }
 
 // A line that is no delta.
@@ -47,12 +44,10 @@ fn bare_line(told: Told, book: OrderBook) -> LineTold
 fn delta_told(told: Told, delta: BookDelta, book: OrderBook) -> LineTold
     ensures { result ≡ delta_told told delta book }
 {
-    let side = delta.side;
-    let action = delta.action;
     LineTold {
         told,
-        side: side.number(),
-        action: action.number(),
+        side: u64::from(delta.side),
+        action: u64::from(delta.action),
         price: delta.price,
         quantity: delta.quantity,
         sequence: delta.sequence,
@@ -65,12 +60,11 @@ pub extern "C" fn wermazul_read_line(line: &[u8]) -> LineTold
     ensures { result ≡ line_told (read_as (decode line.now)) }
 {
     let read = lines::read_frame(line);
-    let answer = read.answer;
-    let book = read.book;
-    let told = names::kind_told(answer, book);
-    match answer {
-        FrameAnswer::Delta(delta) => delta_told(told, delta, book),
-        _ => bare_line(told, book),
+    let told = names::kind_told(read);
+    match read {
+        Ok(ReadFrame::Delta(delta)) => delta_told(told, delta, OrderBook::new()),
+        Ok(ReadFrame::Snapshot(book)) => bare_line(told, book),
+        Err(_) => bare_line(told, OrderBook::new()),
     }
 }
 
@@ -95,8 +89,8 @@ pub extern "C" fn wermazul_write_delta(
     ensures { record { answer = result; memory = out.new } ≡ told_left (written (delta_line_by side action price quantity sequence) out.old) }
 {
     match names::delta_of(side, action, price, quantity, sequence) {
-        DeltaAnswer::Is(delta) => Told::of_number(frames::write_delta(delta, out)),
-        DeltaAnswer::Refused(why) => Told::of_refusal(why),
+        Ok(delta) => Told::of(frames::write_delta(delta, out)),
+        Err(why) => Told::from(why),
     }
 }
 
@@ -112,5 +106,6 @@ pub extern "C" fn wermazul_write_snapshot<'a>(
 ) -> Told
     ensures { record { answer = result; memory = out.new } ≡ told_left (written (snapshot_line (lent_book bp bq ap aq counts)) out.old) }
 {
-    Told::of_number(lines::snapshot::write_snapshot_at(bp, bq, ap, aq, counts, out))
+    let book = BookRows::of(bp, bq, ap, aq, counts);
+    Told::of(lines::snapshot::write_snapshot_at(book, out))
 }

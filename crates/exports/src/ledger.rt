@@ -1,8 +1,8 @@
 // The ledger for Rust and C.
 ghost use Rattle.std.specs.Prelude.{◌≡◌};
-ghost use Rattle.types.specs.Answers.{reply_of_outcome};
+ghost use Rattle.types.specs.Answers.{reply_of};
 ghost use Rattle.position.specs.Ledger.{is_ledger, created, deposited};
-ghost use Rattle.position.specs.Lent.{ledger_at, lent_ledger};
+ghost use Rattle.position.specs.Lent.{ledger_at, ledger_in, lent_ledger};
 ghost use Rattle.valuation.specs.Values.{unrealized};
 ghost use Rattle.day.specs.Numbers.{day_booked_by};
 ghost use Rattle.told.specs.Numbers.{tell, nothing, one_amount};
@@ -11,7 +11,8 @@ ghost use Rattle.exports.specs.Ledgers.{unnamed, ledger_told, fill_of, booked_by
 use crate::{DayTold, LedgerTold, TotalsTold};
 use amount::Amount;
 use holding::Fill;
-use position::{PositionLedger, RowsBooked, Totals, rows};
+use position::lent::LedgerRows;
+use position::{PositionLedger, Totals, rows};
 use told::Told;
 use types::{Refusal, Side};
 use valuation::rows::{
@@ -20,30 +21,23 @@ use valuation::rows::{
 };
 
 // What a change left beside the rows, its outcome as numbers.
-fn given(done: RowsBooked) -> TotalsTold
-    ensures { result ≡ record { totals = done.totals; told = tell nothing (reply_of_outcome done.outcome) } }
+fn given(totals: Totals, outcome: Result<(), Refusal>) -> TotalsTold
+    ensures { result ≡ record { totals = totals; told = tell nothing (reply_of outcome) } }
 {
-    let totals = done.totals;
-    let outcome = done.outcome;
     TotalsTold {
         totals,
-        told: Told::of_outcome(outcome),
+        told: Told::of(outcome),
     }
 }
 
 // The refusal of numbers that name nothing: 1 if the record is no ledger, else 2.
-fn unnamed<'a>(
-    quantities: &'a [i64; 32],
-    averages: &'a [u32; 32],
-    realized: &'a [i64; 32],
-    totals: Totals,
-) -> Told
-    ensures { result ≡ tell nothing (unnamed (lent_ledger quantities averages realized totals)) }
+fn unnamed(ledger: LedgerRows<'_>) -> Told
+    ensures { result ≡ tell nothing (unnamed (ledger_in ledger.entry)) }
 {
-    if rows::is_ledger(quantities, averages, realized, totals) {
-        return Told::of_refusal(Refusal::OutOfLimits);
+    if ledger.is_ledger() {
+        return Told::from(Refusal::OutOfLimits);
     }
-    Told::of_refusal(Refusal::NotARecord)
+    Told::from(Refusal::NotARecord)
 }
 
 #[unsafe(no_mangle)]
@@ -51,11 +45,9 @@ pub extern "C" fn wermazul_ledger(cash: i64) -> LedgerTold
     ensures { result ≡ ledger_told (created cash) }
 {
     let opened = PositionLedger::new(Amount { value: cash });
-    let ledger = opened.ledger;
-    let outcome = opened.outcome;
     LedgerTold {
-        ledger,
-        told: Told::of_outcome(outcome),
+        ledger: opened.ledger,
+        told: Told::of(opened.outcome),
     }
 }
 
@@ -68,7 +60,7 @@ pub extern "C" fn wermazul_is_ledger<'a>(
 ) -> bool
     ensures { result ≡ is_ledger (lent_ledger quantities averages realized totals) }
 {
-    rows::is_ledger(quantities, averages, realized, totals)
+    LedgerRows::of(quantities, averages, realized, totals).is_ledger()
 }
 
 fn fill_of(symbol: u32, side: u64, quantity: u32, price: u32, commission: Amount) -> Fill
@@ -76,7 +68,7 @@ fn fill_of(symbol: u32, side: u64, quantity: u32, price: u32, commission: Amount
 {
     Fill {
         symbol,
-        side: Side::of(side == 1),
+        side: Side::from(side == 1),
         quantity,
         price,
         commission,
@@ -101,11 +93,13 @@ pub extern "C" fn wermazul_apply_fill(
     if side > 1 {
         return TotalsTold {
             totals,
-            told: unnamed(quantities, averages, realized, totals),
+            told: unnamed(LedgerRows::of(quantities, averages, realized, totals)),
         };
     }
     let fill = fill_of(symbol, side, quantity, price, Amount { value: commission });
-    given(rows::apply_fill(quantities, averages, realized, totals, fill))
+    let mut after = totals;
+    let outcome = rows::apply_fill(quantities, averages, realized, &mut after, fill);
+    given(after, outcome)
 }
 
 // A day's fills on the rows, in order, until one is refused: five numbers each, the symbol, the side, the quantity, the price and the commission.
@@ -119,13 +113,12 @@ pub extern "C" fn wermazul_apply_fills(
 ) -> DayTold
     ensures { record { ledger = ledger_at quantities.new averages.new realized.new result.totals; taken = result.taken; told = result.told } ≡ day_told (day_booked_by (ledger_at quantities.old averages.old realized.old totals) numbers.now) }
 {
-    let booked = day::rows::apply_fills(quantities, averages, realized, totals, numbers);
-    let totals = booked.totals;
-    let outcome = booked.outcome;
+    let mut after = totals;
+    let booked = day::rows::apply_fills(quantities, averages, realized, &mut after, numbers);
     DayTold {
-        totals,
+        totals: after,
         taken: booked.taken,
-        told: Told::of_outcome(outcome),
+        told: Told::of(booked.outcome),
     }
 }
 
@@ -139,13 +132,10 @@ pub extern "C" fn wermazul_deposit<'a>(
 ) -> TotalsTold
     ensures { record { ledger = lent_ledger quantities averages realized result.totals; told = result.told } ≡ ledger_told (deposited (lent_ledger quantities averages realized totals) amount) }
 {
-    given(rows::deposit(
-        quantities,
-        averages,
-        realized,
-        totals,
-        Amount { value: amount },
-    ))
+    let mut after = totals;
+    let positions = LedgerRows::of(quantities, averages, realized, totals).positions;
+    let outcome = rows::deposit(positions, &mut after, Amount { value: amount });
+    given(after, outcome)
 }
 
 #[unsafe(no_mangle)]
@@ -159,7 +149,8 @@ pub extern "C" fn wermazul_unrealized<'a>(
 ) -> Told
     ensures { result ≡ tell one_amount (unrealized (lent_ledger quantities averages realized totals) symbol price) }
 {
-    Told::of_amount(checked_unrealized_pnl(quantities, averages, realized, totals, symbol, price))
+    let ledger = LedgerRows::of(quantities, averages, realized, totals);
+    Told::of(checked_unrealized_pnl(ledger, symbol, price))
 }
 
 // What the ledger is worth at prices: 0 unrealized_pnl_total, 1 net_liquidation_value, 2 net_market_exposure, 3 delta_neutral_check.
@@ -174,11 +165,12 @@ pub extern "C" fn wermazul_worth<'a>(
 ) -> Told
     ensures { result ≡ worth_by (lent_ledger quantities averages realized totals) worth prices.now }
 {
+    let ledger = LedgerRows::of(quantities, averages, realized, totals);
     match worth {
-        0 => Told::of_amount(unrealized_pnl_total(quantities, averages, realized, totals, prices)),
-        1 => Told::of_amount(net_liquidation_value(quantities, averages, realized, totals, prices)),
-        2 => Told::of_amount(net_market_exposure(quantities, averages, realized, totals, prices)),
-        3 => Told::of_flag(delta_neutral_check(quantities, averages, realized, totals, prices)),
-        _ => unnamed(quantities, averages, realized, totals),
+        0 => Told::of(unrealized_pnl_total(ledger, prices)),
+        1 => Told::of(net_liquidation_value(ledger, prices)),
+        2 => Told::of(net_market_exposure(ledger, prices)),
+        3 => Told::of(delta_neutral_check(ledger, prices)),
+        _ => unnamed(ledger),
     }
 }

@@ -10,7 +10,8 @@ ghost use Rattle.exports.specs.Receivers.{held_of, held_at, lent_held, taken_by,
 
 use crate::{Held, TurnTold};
 use deltas::Counts;
-use receiver::{Receiver, rows};
+use orderbook::lent::BookRows;
+use receiver::{Receiver, State, rows};
 use told::Told;
 use types::Refusal;
 
@@ -19,11 +20,9 @@ pub extern "C" fn wermazul_receiver() -> Held
     ensures { result ≡ held_of start }
 {
     let receiver = Receiver::new();
-    let state = receiver.state;
-    let book = receiver.book;
     Held {
-        state: names::state_number(state),
-        book,
+        state: u64::from(receiver.state),
+        book: receiver.book,
     }
 }
 
@@ -44,17 +43,14 @@ pub extern "C" fn wermazul_take_line(
         return TurnTold {
             state,
             counts,
-            told: Told::of_refusal(Refusal::NotARecord),
+            told: Told::from(Refusal::NotARecord),
         };
     }
-    let turned = rows::take_line(bp, bq, ap, aq, names::state_of(state == 1), counts, line);
-    let after = turned.state;
-    let counts = turned.counts;
-    let outcome = turned.outcome;
+    let turned = rows::take_line(bp, bq, ap, aq, State::from(state == 1), counts, line);
     TurnTold {
-        state: names::state_number(after),
-        counts,
-        told: Told::of_outcome(outcome),
+        state: u64::from(turned.state),
+        counts: turned.counts,
+        told: Told::of(turned.outcome),
     }
 }
 
@@ -75,14 +71,13 @@ pub extern "C" fn wermazul_receiver_ask<'a>(
     ensures { result ≡ tell values_in (held_ask (lent_held bp bq ap aq state counts) question side small large) }
 {
     if state > 1 {
-        return Told::of_refusal(Refusal::NotARecord);
+        return Told::from(Refusal::NotARecord);
     }
+    let book = BookRows::of(bp, bq, ap, aq, counts);
+    let state = State::from(state == 1);
     match names::question_of(question, side, small, large) {
-        questions::numbered::Named::Is(q) => {
-            let live = names::state_of(state == 1);
-            receiver_questions::ask_at(bp, bq, ap, aq, live, counts, q).told()
-        }
-        questions::numbered::Named::Refused(why) => names::refused(bp, bq, ap, aq, counts, why),
+        Ok(question) => Told::of(receiver_questions::ask_at(book, state, question)),
+        Err(why) => names::refused(book, why),
     }
 }
 
@@ -104,15 +99,13 @@ pub extern "C" fn wermazul_receiver_places<'a>(
     ensures { result ≡ tell one_number (map_reply length (fitted room (held_numbers (lent_held bp bq ap aq state counts) listing side from to))) }
 {
     if state > 1 {
-        return Told::of_refusal(Refusal::NotARecord);
+        return Told::from(Refusal::NotARecord);
     }
+    let book = BookRows::of(bp, bq, ap, aq, counts);
+    let state = State::from(state == 1);
     match names::listing_of(listing, side, from, to) {
-        listings::numbered::Named::Is(l) => {
-            let live = names::state_of(state == 1);
-            let room = room as usize;
-            Told::of_number(receiver_questions::places_at(bp, bq, ap, aq, live, counts, l, room))
-        }
-        listings::numbered::Named::Refused(why) => names::refused(bp, bq, ap, aq, counts, why),
+        Ok(listing) => Told::of(receiver_questions::places_at(book, state, listing, room as usize)),
+        Err(why) => names::refused(book, why),
     }
 }
 
@@ -134,13 +127,12 @@ pub extern "C" fn wermazul_receiver_list<'a>(
     ensures { record { answer = result; memory = out.new } ≡ told_left (written (held_numbers (lent_held bp bq ap aq state counts) listing side from to) out.old) }
 {
     if state > 1 {
-        return Told::of_refusal(Refusal::NotARecord);
+        return Told::from(Refusal::NotARecord);
     }
+    let book = BookRows::of(bp, bq, ap, aq, counts);
+    let state = State::from(state == 1);
     match names::listing_of(listing, side, from, to) {
-        listings::numbered::Named::Is(l) => {
-            let live = names::state_of(state == 1);
-            Told::of_number(receiver_questions::write_at(bp, bq, ap, aq, live, counts, l, out))
-        }
-        listings::numbered::Named::Refused(why) => names::refused(bp, bq, ap, aq, counts, why),
+        Ok(listing) => Told::of(receiver_questions::write_at(book, state, listing, out)),
+        Err(why) => names::refused(book, why),
     }
 }

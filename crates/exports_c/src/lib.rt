@@ -1,4 +1,5 @@
 // What Rust and C link: each exported function of `exports` under its own name, with its promise stated again.
+// Kept beside `exports`, word for word: the C interface wants the functions in a static library, and no theorem can stand on one.
 #![tactic(auto)]
 
 pub mod layout; // layout.rt: the archive's version, and the sizes of the records that cross

@@ -6,26 +6,20 @@
 ghost use Rattle.std.specs.Prelude.{◌≡◌, ◌*◌, ◌≤◌, length, IfOk};
 
 use chunks::{keep, whole_lines};
-use deltas::Counts;
 use inputs::{fail, is_named, open_named, write_out};
+use printing::Heard;
 use printing::ends::put_end;
-use printing::{Heard, take_lines};
-use receiver::State;
+use receiver::Receiver;
 use std::io;
 use std::io::Read;
 use std::rt::Runtime;
 
-// What was heard so far, how many bytes of the input buffer wait for their line feed, whether more is to be read, and whether all has gone
-// well: after a failure nothing is printed.
+// Something failed, and that it did has been said: nothing is printed any more.
 #[derive(Clone, Copy)]
-struct Run {
-    heard: Heard,
-    held: usize,
-    more: bool,
-    good: bool,
-}
+struct Failed;
 
-// 24 times the bytes of the input buffer: the outcomes of a chunk's lines have no more.
+// 24 times the bytes of the input buffer: the outcomes of a chunk's lines have no more. It stands in a function of its own, since beside other
+// facts an array of this length is more than the prover can compute.
 fn output() -> [u8; 1572864]
     ensures { 1572864 ≡ length result }
 {
@@ -45,132 +39,92 @@ fn read_after(input: &mut impl Read, buf: &mut [u8], held: usize) -> io::Result<
 // Takes the lines of a text and writes their outcomes.
 fn take_text(
     rt: &impl Runtime,
-    bp: &mut [u32; 128],
-    bq: &mut [u32; 128],
-    ap: &mut [u32; 128],
-    aq: &mut [u32; 128],
-    heard: Heard,
+    heard: &mut Heard,
     text: &[u8],
     out: &mut [u8],
-) -> Run
+) -> Result<(), Failed>
     requires { 24 * length text.now ≤ length out.old }
 {
-    let mut before = heard;
-    before.used = 0;
-    let after = take_lines(bp, bq, ap, aq, before, text, out);
-    let good = write_out(rt, out, after.used);
-    Run {
-        heard: after,
-        held: 0,
-        more: good,
-        good,
+    let used = heard.take_lines(text, out, 0);
+    if !write_out(rt, out, used) {
+        return Err(Failed);
     }
+    Ok(())
 }
 
-// Takes the whole lines among the first bytes of the buffer, and keeps the rest.
+// Takes the whole lines among the first bytes of the buffer, keeps the rest, and answers how many bytes those are.
 fn take_front(
     rt: &impl Runtime,
-    bp: &mut [u32; 128],
-    bq: &mut [u32; 128],
-    ap: &mut [u32; 128],
-    aq: &mut [u32; 128],
-    heard: Heard,
+    heard: &mut Heard,
     buf: &mut [u8],
     end: usize,
     out: &mut [u8],
-) -> Run
+) -> Result<usize, Failed>
     requires { (end ≤ length buf.old) × (24 * length buf.old ≤ length out.old) }
 {
     let whole = whole_lines(&buf[..end]);
-    let mut next = take_text(rt, bp, bq, ap, aq, heard, &buf[..whole], out);
-    next.held = keep(buf, whole, end);
-    next
+    take_text(rt, heard, &buf[..whole], out)?;
+    Ok(keep(buf, whole, end))
 }
 
-// Reads once and takes what came. At the end of the input what is held is the last line.
+// Reads once and takes what came; answers how many bytes then wait for their line feed. At the end of the input what is held is the last line,
+// and nothing waits any more.
 fn take_some(
     rt: &impl Runtime,
     input: &mut impl Read,
     name: &[u8],
-    bp: &mut [u32; 128],
-    bq: &mut [u32; 128],
-    ap: &mut [u32; 128],
-    aq: &mut [u32; 128],
-    run: Run,
+    heard: &mut Heard,
+    held: usize,
     buf: &mut [u8],
     out: &mut [u8],
-) -> Run
+) -> Result<Option<usize>, Failed>
     requires { 24 * length buf.old ≤ length out.old }
 {
-    let mut last = run;
-    match read_after(input, buf, run.held) {
-        Ok(end) if end > run.held => {
-            return take_front(rt, bp, bq, ap, aq, run.heard, buf, end, out);
+    match read_after(input, buf, held) {
+        Ok(end) if end > held => Ok(Some(take_front(rt, heard, buf, end, out)?)),
+        Ok(end) => {
+            take_text(rt, heard, &buf[..end], out)?;
+            Ok(None)
         }
-        Ok(end) => last = take_text(rt, bp, bq, ap, aq, run.heard, &buf[..end], out),
         Err(why) => {
             fail(rt, name, why);
-            last.good = false;
+            Err(Failed)
         }
     }
-    last.more = false;
-    last
 }
 
-// Reads until nothing more is to be read. No input is as many reads long as the turns counted down here.
+// Reads until nothing more is to be read. No input is as many reads long as the turns counted here.
 fn take_all(
     rt: &impl Runtime,
     input: &mut impl Read,
     name: &[u8],
-    bp: &mut [u32; 128],
-    bq: &mut [u32; 128],
-    ap: &mut [u32; 128],
-    aq: &mut [u32; 128],
+    heard: &mut Heard,
     buf: &mut [u8],
     out: &mut [u8],
-) -> Run
+) -> Result<(), Failed>
     requires { 24 * length buf.old ≤ length out.old }
 {
-    let counts = Counts {
-        bids: 0,
-        asks: 0,
-        sequence: 0,
-    };
-    let mut run = Run {
-        heard: Heard {
-            state: State::Waiting,
-            counts,
-            number: 0,
-            used: 0,
-        },
-        held: 0,
-        more: true,
-        good: true,
-    };
-    let mut turns = u64::MAX;
-    while turns > 0 && run.more {
-        run = take_some(rt, input, name, bp, bq, ap, aq, run, buf, out);
-        turns -= 1;
+    let mut held = 0;
+    for _ in 0..u64::MAX {
+        let Some(waiting) = take_some(rt, input, name, heard, held, buf, out)? else {
+            break;
+        };
+        held = waiting;
     }
-    run
+    Ok(())
 }
 
 fn take_feed(rt: &impl Runtime, input: &mut impl Read, name: &[u8]) {
-    let mut bp = [0u32; 128];
-    let mut bq = [0u32; 128];
-    let mut ap = [0u32; 128];
-    let mut aq = [0u32; 128];
+    let mut heard = Heard {
+        receiver: Receiver::new(),
+        number: 0,
+    };
     let mut space = [0u8; 65536];
     let mut print = output();
     let buf: &mut [u8] = &mut space;
     let out: &mut [u8] = &mut print;
-    let end = take_all(
-        rt, input, name, &mut bp, &mut bq, &mut ap, &mut aq, buf, out,
-    );
-    if end.good {
-        let heard = end.heard;
-        let state = heard.state;
-        let used = put_end(&bp, &bq, &ap, &aq, state, heard.counts, out, 0);
+    if let Ok(()) = take_all(rt, input, name, &mut heard, buf, out) {
+        let used = put_end(&heard.receiver, out, 0);
         write_out(rt, out, used);
     }
 }

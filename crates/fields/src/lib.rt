@@ -3,65 +3,42 @@
 // no label and does not begin with a digit, is text.
 #![tactic(auto)]
 
-ghost use Rattle.std.specs.Prelude.{◌≤◌, length};
+ghost use Rattle.std.specs.Prelude.{◌≤◌, length, IfSome};
 
 use amount::Amount;
 use deltas::{BookDelta, DeltaAction};
 use types::Side;
 
 // The largest i64.
-const LARGEST: u64 = 9_223_372_036_854_775_807;
+const LARGEST: u64 = i64::MAX as u64;
 
-// Where the first label ends, or what is given where there is none.
-fn label_end(line: &[u8], none: usize) -> usize
-    requires { none ≤ length line.now }
-    ensures { result ≤ length line.now }
+// Where the first label ends, if there is one.
+fn label_end(line: &[u8]) -> Option<usize>
+    ensures { IfSome result (λ end. end ≤ length line.now) }
 {
-    let mut colon = false;
-    let mut i = 0;
-    while i < line.len() {
-        let byte = line[i];
-        if colon && byte == b' ' {
-            return i + 1;
-        }
-        colon = byte == b':';
-        i += 1;
-    }
-    none
+    let colon = line
+        .windows(2)
+        .position(|pair| matches!(pair, [b':', b' ']))?;
+    Some(colon + 2)
 }
 
 // Where the operation of a line begins: at the line's end where it is text.
 pub fn operation(line: &[u8]) -> usize
     ensures { result ≤ length line.now }
 {
-    let n = line.len();
-    if n == 0 {
-        return 0;
+    match line.first() {
+        None | Some(b'#') => line.len(),
+        Some(b'0'..=b'9') => label_end(line).unwrap_or(0),
+        Some(_) => label_end(line).unwrap_or(line.len()),
     }
-    match line[0] {
-        b'#' => n,
-        b'0'..=b'9' => label_end(line, 0),
-        _ => label_end(line, n),
-    }
-}
-
-fn at_most(n: u64, most: u64) -> u64
-    ensures { result ≤ most }
-{
-    if n <= most { n } else { most }
 }
 
 // The number with one more digit.
 fn with_digit(n: u64, byte: u8) -> u64 {
-    if byte >= b'0' && byte <= b'9' {
-        let digit = (byte - b'0') as u64;
-        if n <= u64::MAX / 10 {
-            if digit <= u64::MAX - n * 10 {
-                return n * 10 + digit;
-            }
-        }
+    match byte {
+        b'0'..=b'9' => n.saturating_mul(10).saturating_add(u64::from(byte - b'0')),
+        _ => u64::MAX,
     }
-    u64::MAX
 }
 
 // Where the field of an index begins, from 0: at the line's end where there is none.
@@ -69,53 +46,42 @@ pub fn start(line: &[u8], index: usize) -> usize
     ensures { result ≤ length line.now }
 {
     let mut before = index;
-    let mut i = 0;
-    while i < line.len() {
+    for (i, byte) in line.iter().enumerate() {
         if before == 0 {
             return i;
         }
-        if line[i] == b' ' {
+        if *byte == b' ' {
             before -= 1;
         }
-        i += 1;
     }
-    i
+    line.len()
 }
 
 pub fn number(line: &[u8], index: usize) -> u64 {
-    let mut n = 0;
-    let mut i = start(line, index);
-    while i < line.len() {
-        let byte = line[i];
-        if byte == b' ' {
-            return n;
-        }
-        n = with_digit(n, byte);
-        i += 1;
-    }
-    n
+    let field = line.split(|byte| *byte == b' ').nth(index).unwrap_or(&[]);
+    field.iter().fold(0, |n, byte| with_digit(n, *byte))
 }
 
 // The same as a u32.
 pub fn small(line: &[u8], index: usize) -> u32 {
-    at_most(number(line, index), u32::MAX as u64) as u32
+    u32::try_from(number(line, index)).unwrap_or(u32::MAX)
 }
 
 // How many places of a memory are lent.
 pub fn room(line: &[u8], index: usize, most: usize) -> usize
     ensures { result ≤ most }
 {
-    at_most(number(line, index), most as u64) as usize
+    most.min(number(line, index) as usize)
 }
 
 // 0 for a bid, else an ask.
 pub fn side(line: &[u8], index: usize) -> Side {
-    Side::of(number(line, index) != 0)
+    Side::from(number(line, index) != 0)
 }
 
 // An amount, two numbers: whether it is negative, and its size.
 pub fn amount(line: &[u8], negative: usize, size: usize) -> Amount {
-    let n = at_most(number(line, size), LARGEST);
+    let n = number(line, size).min(LARGEST);
     if number(line, negative) == 0 {
         return Amount::of(n);
     }
@@ -128,7 +94,7 @@ pub fn delta(line: &[u8]) -> BookDelta {
         side: side(line, 1),
         price: small(line, 3),
         quantity: small(line, 4),
-        action: DeltaAction::of(number(line, 2) != 0),
+        action: DeltaAction::from(number(line, 2) != 0),
         sequence: number(line, 5),
     }
 }

@@ -3,4 +3,3 @@ pub mod Reading
 pub mod Bytes
 pub mod Writing
 pub mod Sent
-pub mod Once

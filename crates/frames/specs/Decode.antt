@@ -4,14 +4,12 @@ use Rattle.std.specs.Prelude.{ℕ, zero, suc, ◌+◌, ◌*◌, Bool, true, fals
 use Rattle.std.proofs.Math.Option.{Option, none, some}
 use Rattle.types.specs.Limits.{max_digits}
 use Rattle.types.specs.Named.{side_named}
-use Rattle.types.specs.Replies.{Reply, done, refused, refuse}
+use Rattle.types.specs.Replies.{Reply, done, refused}
 use Rattle.types.specs.declared.PriceLevel.{PriceLevel}
 use Rattle.levels.specs.Table.{level}
 use Rattle.deltas.specs.declared.BookDelta.{BookDelta}
 use Rattle.deltas.specs.Delta.{action_named}
 use Rattle.wire.specs.Wire.{field}
-use Rattle.frames.specs.declared.DeltaAnswer.{DeltaAnswer}
-use Rattle.frames.specs.declared.DeltaAnswer.TheVariants as D
 use Rattle.frames.specs.Frames.{Snapshot, Frame, delta, snapshot, encode, is_whole}
 
 -- the numbers that stand where a delta has its own
@@ -53,8 +51,3 @@ abbrev pub delta_read : Option Frame → Reply BookDelta
 delta_read none = refused 12 []
 delta_read (some (delta d)) = done d
 delta_read (some (snapshot s)) = refused 12 []
-
--- what the call gave back
-abbrev pub reply_of_delta : DeltaAnswer → Reply BookDelta
-reply_of_delta (D.Is d) = done d
-reply_of_delta (D.Refused r) = refuse r

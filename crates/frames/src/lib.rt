@@ -3,51 +3,36 @@
 #![tactic(auto)]
 
 ghost use Rattle.std.specs.Prelude.{◌≡◌, [], ◌++◌, ◌≤◌, length, drop};
-ghost use Rattle.types.specs.Answers.{reply_of_number};
+ghost use Rattle.types.specs.Answers.{reply_of};
 ghost use Rattle.types.specs.Written.{written};
 ghost use Rattle.wire.specs.Wire.{Part, be};
 ghost use Rattle.frames.specs.Frames.{delta, encode, is_whole};
-ghost use Rattle.frames.specs.Decode.{decode, delta_read, reply_of_delta};
+ghost use Rattle.frames.specs.Decode.{decode, delta_read};
 ghost use Rattle.frames.specs.Inner.Bytes.{delta_of, is_delta};
 ghost use Rattle.frames.specs.Sent.{as_sent, delta_line};
 
 use deltas::{BookDelta, DeltaAction};
-use types::{NumberAnswer, Refusal, Side};
-
-// A delta, or that the line is none.
-#[derive(Clone, Copy)]
-pub enum DeltaAnswer {
-    Is(BookDelta),
-    Refused(Refusal),
-}
+use types::{Refusal, Side};
 
 // Whether a frame's delta is whole: a Remove's quantity must be 0.
 fn is_whole(d: BookDelta) -> bool
     ensures { result ≡ is_whole (delta d) }
 {
-    let action = d.action;
-    if deltas::delta_fits(action, d.price, d.quantity) {
-        return match action {
+    deltas::delta_fits(d.action, d.price, d.quantity)
+        && match d.action {
             DeltaAction::Set => true,
             DeltaAction::Remove => d.quantity == 0,
-        };
-    }
-    false
+        }
 }
 
 // A delta as it is sent: a Remove's quantity is 0.
 fn as_sent(d: BookDelta) -> BookDelta
     ensures { result ≡ as_sent d }
 {
-    let mut sent = d;
-    let action = d.action;
-    match action {
-        DeltaAction::Set => {}
-        DeltaAction::Remove => {
-            sent.quantity = 0;
-        }
+    match d.action {
+        DeltaAction::Set => d,
+        DeltaAction::Remove => BookDelta { quantity: 0, ..d },
     }
-    sent
 }
 
 // Writes a delta's kind, side and action, and returns the sum of their bytes.
@@ -77,26 +62,23 @@ fn put_delta(d: BookDelta, out: &mut [u8])
     requires { 41 ≤ length out.old }
     ensures { out.new ≡ encode (delta d) ++ drop 41 out.old }
 {
-    let side = d.side;
-    let action = d.action;
-    let sum = put_kind(out, side.number(), action.number());
+    let sum = put_kind(out, u64::from(d.side), u64::from(d.action));
     let sum2 = put_numbers(out, d.price, d.quantity, d.sequence);
     wire::finish(out, 19, sum + sum2);
 }
 
 // Writes a delta's line at the front of `out` and answers its length; 2 if a number is outside its limits, 11 if there is no room.
-pub fn write_delta(d: BookDelta, out: &mut [u8]) -> NumberAnswer
-    ensures { record { answer = reply_of_number result; memory = out.new } ≡ written (delta_line d) out.old }
+pub fn write_delta(d: BookDelta, out: &mut [u8]) -> Result<u64, Refusal>
+    ensures { record { answer = reply_of result; memory = out.new } ≡ written (delta_line d) out.old }
 {
-    let action = d.action;
-    if deltas::delta_fits(action, d.price, d.quantity) {
-        if out.len() < 41 {
-            return NumberAnswer::Refused(Refusal::NoRoom);
-        }
-        put_delta(as_sent(d), out);
-        return NumberAnswer::Is(41);
+    if !deltas::delta_fits(d.action, d.price, d.quantity) {
+        return Err(Refusal::OutOfLimits);
     }
-    NumberAnswer::Refused(Refusal::OutOfLimits)
+    if out.len() < 41 {
+        return Err(Refusal::NoRoom);
+    }
+    put_delta(as_sent(d), out);
+    Ok(41)
 }
 
 // The numbers that stand where a delta has its own, in the bytes of a line.
@@ -104,8 +86,8 @@ fn delta_in(bytes: &[u8]) -> BookDelta
     requires { length bytes.now ≡ 20 }
     ensures { result ≡ delta_of bytes.now }
 {
-    let side = Side::of(bytes[1] == 1);
-    let action = DeltaAction::of(bytes[2] == 1);
+    let side = Side::from(bytes[1] == 1);
+    let action = DeltaAction::from(bytes[2] == 1);
     BookDelta {
         side,
         price: wire::number(bytes, 3, 4) as u32,
@@ -120,38 +102,29 @@ fn is_delta(bytes: &[u8]) -> bool
     requires { length bytes.now ≡ 20 }
     ensures { result ≡ is_delta bytes.now }
 {
-    if bytes[0] != 1 {
-        return false;
-    }
-    if bytes[1] > 1 {
-        return false;
-    }
-    if bytes[2] > 1 {
-        return false;
-    }
-    wire::sum(bytes) % 256 == 0
+    bytes[0] == 1 && bytes[1] <= 1 && bytes[2] <= 1 && wire::sum(bytes) % 256 == 0
 }
 
 // The delta that a line is; 12 for any other line. The line has its line feed.
-pub fn read_delta(line: &[u8]) -> DeltaAnswer
-    ensures { reply_of_delta result ≡ delta_read (decode line.now) }
+pub fn read_delta(line: &[u8]) -> Result<BookDelta, Refusal>
+    ensures { reply_of result ≡ delta_read (decode line.now) }
 {
     let mut bytes = [0u8; 20];
     if line.len() != 41 {
-        return DeltaAnswer::Refused(Refusal::DamagedLine);
+        return Err(Refusal::DamagedLine);
     }
     if line[40] != 10 {
-        return DeltaAnswer::Refused(Refusal::DamagedLine);
+        return Err(Refusal::DamagedLine);
     }
     if !wire::read_bytes(line, 20, &mut bytes) {
-        return DeltaAnswer::Refused(Refusal::DamagedLine);
+        return Err(Refusal::DamagedLine);
     }
     if !is_delta(&bytes) {
-        return DeltaAnswer::Refused(Refusal::DamagedLine);
+        return Err(Refusal::DamagedLine);
     }
     let d = delta_in(&bytes);
-    if is_whole(d) {
-        return DeltaAnswer::Is(d);
+    if !is_whole(d) {
+        return Err(Refusal::DamagedLine);
     }
-    DeltaAnswer::Refused(Refusal::DamagedLine)
+    Ok(d)
 }

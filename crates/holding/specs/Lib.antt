@@ -1,4 +1,5 @@
 pub mod Holding
 pub mod Rows
+pub mod Lent
 pub mod Source
 pub mod Inner

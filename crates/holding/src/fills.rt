@@ -1,5 +1,5 @@
 // What a fill moves: lots, their average, the profit realized, and what it takes from cash.
-ghost use Rattle.std.specs.Prelude.{◌≡◌, ◌<◌, ◌≤◌, ◌/◌};
+ghost use Rattle.std.specs.Prelude.{◌≡◌, ◌<◌, ◌≤◌, ◌/◌, pos, nat_abs, ◌*ℤ◌};
 ghost use Rattle.amount.specs.Whole.{amount};
 ghost use Rattle.holding.specs.Holding.{signed, grows, average_after, closed_lots, gain, charge, position_after};
 ghost use Rattle.holding.specs.Inner.Sizes.{PositionIn, FillIn};
@@ -38,6 +38,7 @@ fn per_lot(cost: u64, lots: u64) -> u64
     cost / lots
 }
 
+#[tactic(auto, unfolding(crate::specs::Holding::average_after))]
 fn new_average(grown: bool, old: u64, average: u32, n: Quantity, price: Price) -> u32
     requires { (old ≤ 1000000000) × (average ≤ 100000000) × (n ≤ 1000000000) × (price ≤ 100000000) }
     ensures { result ≡ average_after grown old average n price }
@@ -58,11 +59,7 @@ fn new_average(grown: bool, old: u64, average: u32, n: Quantity, price: Price) -
 fn closed_lots(grown: bool, old: u64, n: Quantity) -> u64
     ensures { result ≡ closed_lots grown old n }
 {
-    if grown {
-        return 0;
-    }
-    let lots = n as u64;
-    if lots < old { lots } else { old }
+    if grown { 0 } else { old.min(n as u64) }
 }
 
 // What each closed lot earns.
@@ -76,37 +73,39 @@ fn gain_of(side: Side, average: u32, price: Price) -> Amount
     }
 }
 
+// What the closed lots earn.
+fn earned(grown: bool, old: u64, average: u32, fill: Fill) -> Amount
+    requires { (old ≤ 1000000000) × (average ≤ 100000000) × FillIn fill }
+    ensures value { result ≡ amount (gain fill.side average fill.price *ℤ pos (closed_lots grown old fill.quantity)) }
+    ensures size { nat_abs result.value ≤ 200000000000000000 }
+{
+    gain_of(fill.side, average, fill.price).times(closed_lots(grown, old, fill.quantity))
+}
+
 impl Fill {
     // What the fill takes from cash: its cost with its sign, and its commission.
     pub fn charge(self) -> Amount
         requires { FillIn self }
         ensures { result ≡ amount (charge self) }
     {
-        let side = self.side;
-        let commission = self.commission;
-        signed(side, self.quantity as u64 * self.price as u64).add(commission)
+        let cost = self.quantity as u64 * self.price as u64;
+        signed(self.side, cost).add(self.commission)
     }
 }
 
 impl Position {
+    #[tactic(auto, using(amount::proofs::Integers::add_size), unfolding(crate::specs::Holding::position_after))]
     pub fn after_fill(self, fill: Fill) -> Position
         requires { PositionIn self × FillIn fill }
         ensures { result ≡ position_after self fill }
     {
-        let side = fill.side;
-        let held = self.quantity;
-        let realized = self.realized;
-        let commission = fill.commission;
-        let old = held.size();
-        let grown = is_increase(side, held);
-        let quantity = held.add(signed(side, fill.quantity as u64));
-        let average = new_average(grown, old, self.average, fill.quantity, fill.price);
-        let closed = closed_lots(grown, old, fill.quantity);
-        let earned = gain_of(side, self.average, fill.price).times(closed);
+        let old = self.quantity.size();
+        let grown = is_increase(fill.side, self.quantity);
+        let earned = earned(grown, old, self.average, fill);
         Position {
-            quantity,
-            average,
-            realized: realized.add(earned).sub(commission),
+            quantity: self.quantity.add(signed(fill.side, fill.quantity as u64)),
+            average: new_average(grown, old, self.average, fill.quantity, fill.price),
+            realized: self.realized.add(earned).sub(fill.commission),
         }
     }
 }

@@ -6,7 +6,8 @@ use types::{Price, Quantity, Side};
 
 mod fills; // fills.rt: what a fill moves
 mod limits; // limits.rt: the tests
-pub mod rows; // rows.rt: positions in lent rows
+pub mod lent; // lent.rt: positions lent to be read
+pub mod rows; // rows.rt: positions in lent rows: read, tested, put
 
 #[derive(Clone, Copy)]
 pub struct Fill {

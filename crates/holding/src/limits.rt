@@ -6,18 +6,14 @@ use crate::{Fill, Position};
 use types::{MAX_COMMISSION, MAX_MONEY, MAX_POSITION, is_price, is_quantity};
 
 impl Fill {
+    #[tactic(auto, unfolding(crate::specs::Holding::is_fill))]
     pub fn is_fill(self) -> bool
         ensures { result ≡ is_fill self }
     {
-        if self.symbol < 32 {
-            if is_quantity(self.quantity) {
-                if is_price(self.price) {
-                    let commission = self.commission;
-                    return commission.within(MAX_COMMISSION);
-                }
-            }
-        }
-        false
+        self.symbol < 32
+            && is_quantity(self.quantity)
+            && is_price(self.price)
+            && self.commission.within(MAX_COMMISSION)
     }
 }
 
@@ -31,16 +27,12 @@ fn is_average(size: u64, average: u32) -> bool
 }
 
 impl Position {
+    #[tactic(auto, unfolding(crate::specs::Holding::is_position))]
     pub fn is_position(self) -> bool
         ensures { result ≡ is_position self }
     {
-        let quantity = self.quantity;
-        let realized = self.realized;
-        if quantity.within(MAX_POSITION) {
-            if realized.within(MAX_MONEY) {
-                return is_average(quantity.size(), self.average);
-            }
-        }
-        false
+        self.quantity.within(MAX_POSITION)
+            && self.realized.within(MAX_MONEY)
+            && is_average(self.quantity.size(), self.average)
     }
 }

@@ -1,29 +1,38 @@
 // Positions that stand in three lent rows, a place for each symbol: quantities, averages, realized profits.
 ghost use Rattle.std.specs.Prelude.{◌≡◌, ◌<◌, set};
-ghost use Rattle.amount.specs.Sums.{all_to};
-ghost use Rattle.holding.specs.Rows.{position_of, is_position_of, are_positions};
+ghost use Rattle.holding.specs.Lent.{position_in, positions_in};
 
 use crate::Position;
+use crate::lent::PositionRows;
 use amount::Amount;
 
-// The position of a symbol.
-pub fn at<'a>(
-    quantities: &'a [i64; 32],
-    averages: &'a [u32; 32],
-    realized: &'a [i64; 32],
-    symbol: usize,
-) -> Position
-    requires { symbol < 32 }
-    ensures { result ≡ position_of quantities.now averages.now realized.now symbol }
-{
-    Position {
-        quantity: Amount {
-            value: quantities[symbol],
-        },
-        average: averages[symbol],
-        realized: Amount {
-            value: realized[symbol],
-        },
+impl<'a> PositionRows<'a> {
+    // The position of a symbol.
+    pub fn at(self, symbol: usize) -> Position
+        requires { symbol < 32 }
+        ensures { result ≡ position_in self.entry symbol }
+    {
+        Position {
+            quantity: Amount {
+                value: self.quantities[symbol],
+            },
+            average: self.averages[symbol],
+            realized: Amount {
+                value: self.realized[symbol],
+            },
+        }
+    }
+
+    // Whether the position of each symbol is within its limits.
+    pub fn are_positions(self) -> bool
+        ensures { result ≡ positions_in self.entry }
+    {
+        for i in 0..32 {
+            if !self.at(i).is_position() {
+                return false;
+            }
+        }
+        true
     }
 }
 
@@ -43,39 +52,4 @@ pub fn put(
     quantities[symbol] = lots;
     averages[symbol] = position.average;
     realized[symbol] = profit;
-}
-
-// Whether the position of each symbol is within its limits.
-fn each_fits<'a>(
-    quantities: &'a [i64; 32],
-    averages: &'a [u32; 32],
-    realized: &'a [i64; 32],
-) -> bool
-    ensures { result ≡ all_to (is_position_of quantities.now averages.now realized.now) 32 }
-{
-    let mut i = 0;
-    while i < 32 {
-        let position = at(quantities, averages, realized, i);
-        if position.is_position() {
-            i += 1;
-        } else {
-            return false;
-        }
-    }
-    true
-}
-
-// Whether the rows are those of 32 positions within their limits.
-pub fn are_positions<'a>(
-    quantities: &'a [i64; 32],
-    averages: &'a [u32; 32],
-    realized: &'a [i64; 32],
-) -> bool
-    ensures { result ≡ are_positions quantities.now averages.now realized.now }
-{
-    // as slices, the rows are known to have 32 places
-    let lots: &[i64] = quantities;
-    let prices: &[u32] = averages;
-    let profits: &[i64] = realized;
-    each_fits(quantities, averages, realized)
 }

@@ -5,7 +5,6 @@ use native.Mathlib.Nat.{zero-add}
 use native.Mathlib.Numerals.{add-one}
 use mathlib.Core.Path.{◌≡◌, refl, sym, ◌∙◌}
 use mathlib.Core.Bool.{true, false}
-use mathlib.Core.Logic.{◌⊎◌, inl, inr, ⊎_elim}
 use mathlib.Core.List.{List, [], ◌∷◌}
 use lib.ListN.{length, take, drop, get_or}
 use lib.Seq.{length-take-le, get_or-take, take-take}
@@ -60,8 +59,8 @@ module _ (s : Side) (p : ℕ) where
 
 -- the same of the first n places of a row
 module _ (s : Side) (p : ℕ) (xs : List ℕ) (n : ℕ) (l : n ≤ length xs) where
-  pub count-within : count_ahead s p (take n xs) ≤ n
-  count-within = omega (arith, count_few s p (take n xs), length-take-le n xs l)
+  pub count_within : count_ahead s p (take n xs) ≤ n
+  count_within = omega (arith, count_few s p (take n xs), length-take-le n xs l)
 
   module _ (h : in_order s (take n xs) ≡ true) where
     place_test : (i : ℕ) → i < n → ahead_of s (get_or xs i 0) p ≡ ltb i (count_ahead s p (take n xs))
@@ -77,20 +76,3 @@ module _ (s : Side) (p : ℕ) (xs : List ℕ) (n : ℕ) (l : n ≤ length xs) wh
 
     pub run_counts : (i w : ℕ) → i + w ≤ n → EndIn s p (take n xs) i w → i + count_ahead s p (drop i (take (i + w) xs)) ≡ count_ahead s p (take n xs)
     run_counts i w k e = rw (← take-take (i + w) n xs k) (sym (count_run s p (take n xs) i w h e))
-
--- k prices are ahead, and the next block of 16 to look at ends at `last`: `from` places are in the blocks before it whose last price is ahead, and these are all the blocks before it, or those ahead end within the
--- 16 places from there on
-abbrev pub Blocks : ℕ → ℕ → ℕ → Type 0
-Blocks k from last = (from ≤ k) × (from + 15 ≤ last) × ((from + 15 ≡ last) ⊎ (k < from + 16))
-
-module _ (k from last : ℕ) (b : Blocks k from last) where
-  -- one more block, by its last place
-  pub block_ahead : last < k → Blocks k (from + 16) (last + 16)
-  block_ahead h = ⊎_elim (λ e. (omega arith, omega (arith, b.1), inl (omega arith))) (λ e. absurd (omega (arith, b.1))) b.2
-
-  pub block_behind : k ≤ last → Blocks k from (last + 16)
-  block_behind h = (b.0, omega (arith, b.1), ⊎_elim (λ e. inr (omega arith)) (λ e. inr e) b.2)
-
-  -- all blocks
-  pub blocks_end : (n : ℕ) → k ≤ n → n ≤ last → k ≤ from + 16
-  blocks_end n h l = ⊎_elim (λ e. omega arith) (λ e. omega arith) b.2

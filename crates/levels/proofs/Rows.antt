@@ -3,15 +3,24 @@ use Prim.Native.Nat.{ℕ, suc, ◌+◌, ◌≤◌, ◌<◌}
 use native.Mathlib.Omega.{arith}
 use native.Mathlib.Nat.{eq-or-lt_of_le}
 use native.Mathlib.Numerals.{add-one}
-use mathlib.Core.Path.{◌≡◌}
+use mathlib.Core.Path.{◌≡◌, refl}
 use mathlib.Core.Bool.{Bool, true, cond, ◌&&◌}
 use mathlib.Core.Logic.{⊎_elim}
 use mathlib.Core.List.{List, [], ◌∷◌}
 use lib.ListN.{length, take, drop, get_or, drop_of_length-le}
-use lib.Seq.{length-take-le, drop-cons, get_or-take}
+use lib.Seq.{length-take-le, drop-cons, get_or-take, take_all}
 use Rattle.types.specs.declared.Side.{Side}
 use Rattle.levels.specs.Order.{ahead_of, step_to, steps, count_ahead}
 use Rattle.levels.specs.Formed.{every}
+
+-- a test of no places
+pub every_nil : (f : ℕ → Bool) → every f [] ≡ true
+unfolding every
+every_nil f = refl
+
+-- a test of the first n, if these are all
+pub every_all : (f : ℕ → Bool) (xs : List ℕ) (n : ℕ) → length xs ≤ n → every f (take n xs) ≡ every f xs
+every_all f xs n h = rw (take_all n xs h)
 
 -- a test of the whole row from the place i on
 module _ (xs : List ℕ) (i : ℕ) (f : ℕ → Bool) where
@@ -38,6 +47,10 @@ module _ (xs : List ℕ) (n : ℕ) (l : n ≤ length xs) where
       drop_of_length-le (take n xs) past
 
   module _ (i : ℕ) where
+    pub every_turn : (f : ℕ → Bool) → i < n → every f (drop i (take n xs)) ≡ f (get_or xs i 0) && every f (drop (i + 1) (take n xs))
+    unfolding every
+    every_turn f h = rw (run_cons i h)
+
     pub every_end : (f : ℕ → Bool) → n ≤ i → every f (drop i (take n xs)) ≡ true
     unfolding every
     every_end f h = rw (run_end i h)

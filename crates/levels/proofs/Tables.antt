@@ -13,8 +13,10 @@ use Rattle.types.specs.declared.Side.{Side}
 use Rattle.types.specs.declared.PriceLevel.{PriceLevel}
 use Rattle.levels.specs.Order.{in_order}
 use Rattle.levels.specs.Formed.{every, in_limits, zeros, well_formed}
-use Rattle.levels.specs.Table.{level, prices_of, quantities_of, paired, levels, table}
+use Rattle.levels.specs.Table.{level, prices_of, quantities_of, paired, levels, table, rows}
 use Rattle.levels.specs.declared.Levels.{Levels}
+use Rattle.types.proofs.Booleans.{by}
+use Rattle.levels.proofs.Ends.{whole_row}
 use Rattle.levels.proofs.Rows.{run_cons, run_end}
 use Rattle.levels.proofs.Pads.{padded_front, padded-behind, padded-length, padded-back, padded-first}
 
@@ -129,6 +131,17 @@ module _ (t : Levels) (w : Sized t) (n : t.count ≤ max_levels) where
       ((zeros (drop t.count t.prices) && zeros (drop t.count t.quantities)) && every (within 0 max_quantity) (take t.count t.quantities))
   unfolding well_formed
   by_rows s = rw (le-leb _ _ n, levels-prices, paired_limits _ _ even) (regrouped (in_order s (take t.count t.prices)) _ _ (zeros (drop t.count t.prices)) _)
+
+-- of two rows of 128 places, so that what stands behind the count is tested first, and then the whole row of quantities may be
+pub formed_rows :
+    (s : Side) (ps qs : List ℕ) (n : ℕ) → length ps ≡ max_levels → length qs ≡ max_levels → n ≤ max_levels →
+    well_formed s (rows ps qs n) ≡
+    (in_order s (take n ps) && every (within 1 max_price) (take n ps)) && ((zeros (drop n ps) && zeros (drop n qs)) && every (within 0 max_quantity) qs)
+formed_rows s ps qs n p q h =
+    let e = by_rows (rows ps qs n) (record { ps = p; qs = q }) h s in
+    by (zeros (drop n qs))
+    (λ z. rw (whole_row max_quantity n qs z) e)
+    (λ z. rw (z, and-false) (rw (z, and-false) at e))
 
 module _ (s : Side) (t : Levels) (w : Sized t) (f : Formed s t) where
   -- a table by the rules is made of its levels again

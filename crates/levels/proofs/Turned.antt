@@ -6,7 +6,7 @@ use mathlib.Core.Bool.{true, false, cond, ◌&&◌, and-eq-true_iff, and-false, 
 use mathlib.Core.List.{List, [], ◌∷◌, map}
 use lib.Bits.{bit_xor, bit_and, and_high, xor_add_and}
 use lib.ListN.{length, take, drop, get_or, length-map, get_or-map}
-use lib.Dec.{ltb}
+use lib.Dec.{ltb, eqb}
 use borrow.Author.Tests.{ltb-true, ltb-false, lt-ltb, le-ltb}
 use Rattle.types.specs.Limits.{within, max_price}
 use Rattle.types.specs.declared.Side.{Side}
@@ -16,7 +16,8 @@ use Rattle.levels.specs.Order.{ahead_of, leads, in_order, steps}
 use Rattle.levels.specs.Formed.{every}
 use Rattle.levels.proofs.Ends.{within_le, le_within, ends_row}
 use Rattle.levels.proofs.Orders.{get_d_any}
-use Rattle.levels.proofs.Rows.{steps-turn}
+use Rattle.levels.proofs.Rows.{steps-turn, steps_end}
+use Rattle.levels.proofs.Steps.{order_by_steps}
 
 abbrev pub turned : ℕ → ℕ
 turned x = bit_xor x (2 ^ 31)
@@ -99,6 +100,14 @@ module _ (s : Side) (xs : List ℕ) (n : ℕ) where
     turned_turn i h =
         let m = length-map xs turned in
         rw (← place_turned xs i (omega arith), ← place_turned xs (i + 1) (omega arith)) (steps-turn (map turned xs) n (omega arith) i s h)
+
+    -- and its end
+    pub turned_end : (i : ℕ) → n ≤ i + 1 → steps s (drop i (take n (map turned xs))) ≡ 0
+    turned_end i h = let m = length-map xs turned in steps_end (map turned xs) n (omega arith) i s h
+
+    -- they are in order where each but the last takes a step
+    pub turned_order : 0 < n → eqb (steps s (take n (map turned xs))) (n - 1) ≡ in_order s (take n (map turned xs))
+    turned_order h = let m = length-map xs turned in order_by_steps s (map turned xs) n (omega arith) h
 
     -- where they are in order, the prices are in order and limits if the first and the last are in the limits
     pub turned_in : 0 < n → in_order s (take n (map turned xs)) ≡ true → in_order s (take n xs) && every (within 1 max_price) (take n xs) ≡ within 1 max_price (get_or xs 0 0) && within 1 max_price (get_or xs (n - 1) 0)

@@ -4,3 +4,4 @@ pub mod Table
 pub mod Formed
 pub mod Change
 pub mod Examples
+pub mod Lent

@@ -4,9 +4,10 @@ ghost use Rattle.std.specs.Prelude.{◌≡◌, true, ◌&&◌, map, ◌≤◌, �
 ghost use Rattle.std.specs.Int.Bits.{bit_xor};
 ghost use Rattle.types.specs.Limits.{within, max_price, max_quantity};
 ghost use Rattle.levels.specs.Order.{ahead_of, in_order, steps};
-ghost use Rattle.levels.specs.Table.{rows};
+ghost use Rattle.levels.specs.Lent.{levels_in};
 ghost use Rattle.levels.specs.Formed.{every, zeros, well_formed};
 
+use crate::lent::SideRows;
 use types::Side;
 
 // Whether `x` is from `lo` to `hi`.
@@ -31,24 +32,23 @@ fn ahead_turned(side: Side, a: u32, b: u32) -> bool
 }
 
 // How many of the first `n` prices are, turned, ahead of the next.
+#[tactic(auto, using(crate::proofs::Turned::turned_turn, crate::proofs::Turned::turned_end))]
 fn count_steps(side: Side, prices: &[u32; 128], n: usize) -> usize
     requires { (length prices.now ≡ 128) × (n ≤ 128) × (0 < n) }
     ensures { result ≡ steps side (take n (map (λ x. bit_xor x (2 ^ 31)) prices.now)) }
 {
-    let last = n - 1;
     let mut count: u32 = 0;
-    let mut i: usize = 0;
-    while i < last {
+    for i in 0..n - 1 {
         if ahead_turned(side, prices[i], prices[i + 1]) {
             count += 1;
         }
-        i += 1;
     }
     count as usize
 }
 
 // Whether each of the first `n` prices is, turned, ahead of the next. Each arm names its side, so that the compiler makes a loop for each, in
 // which nothing asks for the side.
+#[tactic(auto, using(crate::proofs::Turned::turned_order))]
 fn ordered(side: Side, prices: &[u32; 128], n: usize) -> bool
     requires { (length prices.now ≡ 128) × (n ≤ 128) × (0 < n) }
     ensures { result ≡ in_order side (take n (map (λ x. bit_xor x (2 ^ 31)) prices.now)) }
@@ -61,6 +61,7 @@ fn ordered(side: Side, prices: &[u32; 128], n: usize) -> bool
 
 // Whether the first `n` prices are in order and in the limits. Turned prices in order lie between the first and the last, so these two are
 // in the limits only if all are, and of numbers in the limits the turned ones have the same order.
+#[tactic(auto, using(crate::proofs::Turned::turned_in, crate::proofs::Turned::turned_out, crate::proofs::Steps::order_none, crate::proofs::Rows::every_nil))]
 fn prices_fit(side: Side, prices: &[u32; 128], n: usize) -> bool
     requires { (length prices.now ≡ 128) × (n ≤ 128) }
     ensures { result ≡ in_order side (take n prices.now) && every (within 1 max_price) (take n prices.now) }
@@ -78,36 +79,35 @@ fn prices_fit(side: Side, prices: &[u32; 128], n: usize) -> bool
 }
 
 // All bits of the row's numbers, laid over each other: no number is above that.
+#[tactic(auto, using(crate::proofs::Bits::within_more, crate::proofs::Rows::every_nil, crate::proofs::Rows::every_all))]
 fn all_bits(row: &[u32; 128]) -> u32
     requires { length row.now ≡ 128 }
     ensures { every (within 0 result) row.now ≡ true }
 {
     let mut bits: u32 = 0;
-    let mut i: usize = 0;
-    while i < 128 {
-        bits |= row[i];
-        i += 1;
+    for x in row {
+        bits |= *x;
     }
     bits
 }
 
 // Whether no number of the row is above `hi`.
+#[tactic(auto, using(crate::proofs::Rows::row_turn, crate::proofs::Rows::row_end))]
 fn all_within(row: &[u32; 128], hi: u32) -> bool
     requires { length row.now ≡ 128 }
     ensures { result ≡ every (within 0 hi) row.now }
 {
     let mut ok = true;
-    let mut i: usize = 0;
-    while i < 128 {
-        if !fits(row[i], 0, hi) {
+    for x in row {
+        if !fits(*x, 0, hi) {
             ok = false;
         }
-        i += 1;
     }
     ok
 }
 
 // Whether each number of the row is a quantity in the limits: at once where all bits together are, else one by one.
+#[tactic(auto, using(crate::proofs::Ends::wider))]
 fn quantities_fit(row: &[u32; 128]) -> bool
     requires { length row.now ≡ 128 }
     ensures { result ≡ every (within 0 max_quantity) row.now }
@@ -119,6 +119,7 @@ fn quantities_fit(row: &[u32; 128]) -> bool
 }
 
 // All bits of both rows' numbers from the place `from` to the one before `to`, laid over each other: 0 where each number is.
+#[tactic(auto, using(crate::proofs::Rows::every_end))]
 fn bits_between<'a>(
     prices: &'a [u32; 128],
     quantities: &'a [u32; 128],
@@ -129,52 +130,45 @@ fn bits_between<'a>(
     ensures { eqb result 0 ≡ zeros (drop from (take to prices.now)) && zeros (drop from (take to quantities.now)) }
 {
     let mut bits: u32 = 0;
-    let mut i = from;
-    while i < to {
+    for i in from..to {
         bits |= prices[i] | quantities[i];
-        i += 1;
     }
     bits
 }
 
+// Where the last whole block of 8 places begins.
+const LAST_BLOCK: usize = 120;
+
 // Whether both rows have 0 in each place from `n` on. A block of 8 places compiles to a few instructions and no loop: the one at `n`, and those
-// from the end down to it, of which the last may lie over it. Fewer than 8 places are tested one by one.
+// at multiples of 8 behind it, of which the first may lie over it. Fewer than 8 places are tested one by one.
+#[tactic(auto, using(crate::proofs::Bits::block_before, crate::proofs::Bits::both_end, crate::proofs::Bits::or_zero))]
 fn unused_are_zero<'a>(prices: &'a [u32; 128], quantities: &'a [u32; 128], n: usize) -> bool
     requires { (length prices.now ≡ 128) × (length quantities.now ≡ 128) }
     ensures { result ≡ zeros (drop n prices.now) && zeros (drop n quantities.now) }
 {
-    if 120 < n {
+    if LAST_BLOCK < n {
         return bits_between(prices, quantities, n, 128) == 0;
     }
     let mut bits = bits_between(prices, quantities, n, n + 8);
-    let mut i: usize = 128;
-    while n + 8 < i {
-        i -= 8;
+    for i in (8 * (n / 8) + 8..128).step_by(8) {
         bits |= bits_between(prices, quantities, i, i + 8);
     }
     bits == 0
 }
 
-// Whether the rows and the count are a well-formed side.
-pub fn well_formed<'a>(
-    side: Side,
-    prices: &'a [u32; 128],
-    quantities: &'a [u32; 128],
-    n: usize,
-) -> bool
-    ensures { result ≡ well_formed side (rows prices.now quantities.now n) }
+// Whether a side that is lent is well formed.
+#[tactic(auto, using(crate::proofs::Tables::formed_rows, crate::proofs::Tables::too_many))]
+pub fn well_formed(side: Side, lent: SideRows<'_>) -> bool
+    ensures { result ≡ well_formed side (levels_in lent.entry) }
 {
-    // as slices, the rows are known to have 128 places
-    let p: &[u32] = prices;
-    let q: &[u32] = quantities;
-    if 128 < n {
+    if 128 < lent.count {
         return false;
     }
-    if !prices_fit(side, prices, n) {
+    if !prices_fit(side, lent.prices, lent.count) {
         return false;
     }
-    if !unused_are_zero(prices, quantities, n) {
+    if !unused_are_zero(lent.prices, lent.quantities, lent.count) {
         return false;
     }
-    quantities_fit(quantities)
+    quantities_fit(lent.quantities)
 }

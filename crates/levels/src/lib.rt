@@ -6,9 +6,14 @@
 ghost use Rattle.std.specs.Prelude.{◌≡◌, [], ◌≤◌};
 ghost use Rattle.levels.specs.Inner.Found.{ahead_in, reached_in};
 ghost use Rattle.levels.specs.Table.{table};
+ghost use Rattle.levels.specs.Lent.{levels_in};
 
+pub mod lent; // lent.rt: a side lent to be read
+pub mod ordered; // ordered.rt: a side's prices, in its order
 pub mod search; // search.rt: which price comes first, and where a price stands or belongs
 pub mod formed; // formed.rt: whether two rows and a count are a well-formed side
+
+use lent::SideRows;
 
 #[repr(C)]
 #[derive(Clone, Copy)]
@@ -18,7 +23,7 @@ pub struct Levels {
     pub count: usize,
 }
 
-// Where a price stands, or before which place it belongs.
+// Where a price stands, or before which place it belongs. Not a Result: neither outcome is a failure, and both carry a place that is used.
 #[derive(Clone, Copy)]
 pub enum Place {
     At(usize),
@@ -57,6 +62,17 @@ impl Levels {
             prices: [0; 128],
             quantities: [0; 128],
             count: 0,
+        }
+    }
+
+    // The table, lent to be read.
+    pub fn rows(&self) -> SideRows<'_>
+        ensures { levels_in result ≡ self.now }
+    {
+        SideRows {
+            prices: &self.prices,
+            quantities: &self.quantities,
+            count: self.count,
         }
     }
 }

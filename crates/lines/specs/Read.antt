@@ -1,14 +1,14 @@
 -- What the calls that read a line give back.
 use Rattle.std.proofs.Math.Option.{Option, none, some}
-use Rattle.std.specs.Prelude.{[]}
+use Rattle.std.specs.Prelude.{[], Result, Ok, Err}
 use Rattle.types.specs.Replies.{Reply, done, refused, refuse}
 use Rattle.orderbook.specs.declared.OrderBook.{OrderBook}
 use Rattle.orderbook.specs.Book.{empty_book}
 use Rattle.orderbook.specs.Apply.{Change}
 use Rattle.frames.specs.Frames.{Frame, delta, snapshot, book_of, snapshot_of}
-use Rattle.lines.specs.declared.FrameAnswer.{FrameAnswer}
-use Rattle.lines.specs.declared.FrameAnswer.TheVariants as F
+use Rattle.types.specs.declared.Refusal.{Refusal}
 use Rattle.lines.specs.declared.ReadFrame.{ReadFrame}
+use Rattle.lines.specs.declared.ReadFrame.TheVariants as F
 
 -- a line's frame or 12, and a book beside it
 pub record Read : Type 0 where
@@ -21,15 +21,11 @@ read_as none = record { reply = refused 12 []; book = empty_book }
 read_as (some (delta d)) = record { reply = done (delta d); book = empty_book }
 read_as (some (snapshot s)) = record { reply = done (snapshot s); book = book_of s }
 
--- an answer with a book beside it: a snapshot is the book's
-abbrev pub reply_of_frame : FrameAnswer → OrderBook → Reply Frame
-reply_of_frame (F.Delta d) b = done (delta d)
-reply_of_frame F.Snapshot b = done (snapshot (snapshot_of b))
-reply_of_frame (F.Refused r) b = refuse r
-
--- what the call gave back
-abbrev pub read_of : ReadFrame → Read
-read_of r = record { reply = reply_of_frame r.answer r.book; book = r.book }
+-- what the call gave back: no book beside a delta or a refusal is the empty one
+abbrev pub read_of : Result ReadFrame Refusal → Read
+read_of (Ok (F.Delta d)) = record { reply = done (delta d); book = empty_book }
+read_of (Ok (F.Snapshot b)) = record { reply = done (snapshot (snapshot_of b)); book = b }
+read_of (Err r) = record { reply = refuse r; book = empty_book }
 
 -- a line that is no snapshot's: 12, beside the empty book
 abbrev pub no_snapshot : Change
@@ -40,3 +36,8 @@ abbrev pub snapshot_read : Option Frame → Change
 snapshot_read none = no_snapshot
 snapshot_read (some (delta d)) = no_snapshot
 snapshot_read (some (snapshot s)) = record { book = book_of s; reply = done tt }
+
+-- what the call gave back
+abbrev pub change_read : Result OrderBook Refusal → Change
+change_read (Ok b) = record { book = b; reply = done tt }
+change_read (Err r) = record { book = empty_book; reply = refuse r }

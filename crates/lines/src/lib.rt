@@ -8,41 +8,22 @@ ghost use Rattle.lines.specs.Read.{read_of, read_as};
 pub mod snapshot; // snapshot.rt: a snapshot's line, read and written
 
 use deltas::BookDelta;
-use frames::DeltaAnswer;
 use orderbook::OrderBook;
-use types::{Outcome, Refusal};
+use types::Refusal;
 
-// What a line is, or 12. A snapshot's book stands beside it.
+// What a line is: a delta, or a snapshot of this book.
 #[derive(Clone, Copy)]
-pub enum FrameAnswer {
+pub enum ReadFrame {
     Delta(BookDelta),
-    Snapshot,
-    Refused(Refusal),
-}
-
-// What a line is, and the book of a snapshot, which is empty beside anything else.
-#[derive(Clone, Copy)]
-pub struct ReadFrame {
-    pub answer: FrameAnswer,
-    pub book: OrderBook,
+    Snapshot(OrderBook),
 }
 
 // What a line reads as: a frame if it is whole and this is its line, else 12. The line has its line feed.
-pub fn read_frame(line: &[u8]) -> ReadFrame
+pub fn read_frame(line: &[u8]) -> Result<ReadFrame, Refusal>
     ensures { read_of result ≡ read_as (decode line.now) }
 {
-    let DeltaAnswer::Is(delta) = frames::read_delta(line) else {
-        let read = snapshot::read_snapshot(line);
-        let outcome = read.outcome;
-        let book = read.book;
-        let answer = match outcome {
-            Outcome::Done => FrameAnswer::Snapshot,
-            Outcome::Refused(why) => FrameAnswer::Refused(why),
-        };
-        return ReadFrame { answer, book };
-    };
-    ReadFrame {
-        answer: FrameAnswer::Delta(delta),
-        book: OrderBook::new(),
+    if let Ok(delta) = frames::read_delta(line) {
+        return Ok(ReadFrame::Delta(delta));
     }
+    Ok(ReadFrame::Snapshot(snapshot::read_snapshot(line)?))
 }

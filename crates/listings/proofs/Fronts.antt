@@ -1,20 +1,20 @@
 -- Numbers written to the front of a buffer: what an answer says of them, and a front whose rest was lent on.
+use Rattle.std.specs.Prelude.{Result, Ok, Err}
 use Prim.Native.Nat.{ℕ, ◌+◌, ◌-◌, ◌≤◌}
 use native.Mathlib.Omega.{arith}
 use mathlib.Core.Path.{◌≡◌, refl, ap, sym, ◌∙◌}
 use mathlib.Core.List.{List, [], ◌++◌, append_assoc, append-nil}
 use lib.Dec.{leb}
 use lib.IntN.{ℤ}
-use lib.ListN.{length, take, drop, length-append, length-drop, drop_of_length-le}
+use lib.ListN.{length, take, drop, length-append, length-drop, drop_of_length-le, length-take}
 use lib.Seq.{take_at, take_all, drop_at, drop-drop}
 use borrow.Author.Tests.{leb-true}
 use Rattle.types.specs.Replies.{Reply, done, refused, map_reply}
-use Rattle.types.specs.Answers.{reply_of_number}
+use Rattle.types.specs.Answers.{reply_of}
 use Rattle.types.specs.Written.{Left, fitted, overwritten, written}
-use Rattle.types.specs.declared.NumberAnswer.{NumberAnswer}
-use Rattle.types.specs.declared.NumberAnswer.TheVariants as N
 use Rattle.types.specs.declared.Refusal.{Refusal}
 use Rattle.types.proofs.Booleans.{by}
+use Rattle.listings.specs.Inner.Fronts.{PlacesFit, front_at}
 use Rattle.listings.specs.Listed.{front_of}
 
 -- ns are written to the front of o, which becomes l; ms to the front of l's rest, which is lent on and becomes m
@@ -55,13 +55,28 @@ no_front (done ns) n vs e = absurd (let z : ◌≡◌ {A = ℕ} 0 1 = cc in omeg
 no_front (refused m us) n vs e = refl
 
 -- the part of the buffer that is handed back is the front
-module _ (ns : Reply (List ℕ)) (m after : List ℕ) (r : NumberAnswer) (w : record { answer = reply_of_number r; memory = after } ≡ written ns m) where
-  pub front_part : (k : ℕ) → r ≡ N.Is k → (take k after ≡ front_of (fitted (length m) ns)) × (k ≡ length (take k after))
+module _ (ns : Reply (List ℕ)) (m after : List ℕ) (r : Result ℕ Refusal) (w : record { answer = reply_of r; memory = after } ≡ written ns m) where
+  pub front_part : (k : ℕ) → r ≡ Ok k → (take k after ≡ front_of (fitted (length m) ns)) × (k ≡ length (take k after))
   front_part k e =
       let x = fitted (length m) ns in
       let n : k ≡ length (front_of x) = some x k (rw e at (ap (λ (u : Left (Reply ℕ)). u.answer) w)) in
       let f : take k after ≡ front_of x = ap (take k) (ap (λ (u : Left (Reply ℕ)). u.memory) w ∙ left_front x m) ∙ take_at (front_of x) _ k (sym n) in
       (f, n ∙ ap length (sym f))
 
-  pub front_none : (why : Refusal) → r ≡ N.Refused why → [] ≡ front_of (fitted (length m) ns)
+  pub front_none : (why : Refusal) → r ≡ Err why → [] ≡ front_of (fitted (length m) ns)
   front_none why e = no_front (fitted (length m) ns) _ _ (rw e at (ap (λ (u : Left (Reply ℕ)). u.answer) w))
+
+  -- the places of the answer are in it, and make the front
+  pub places_fit : PlacesFit r after
+  places_fit = fit r refl
+    where
+      fit : (x : Result ℕ Refusal) → r ≡ x → PlacesFit x after
+      fit (Ok k) e = omega (arith, (front_part k e).1, length-take k after)
+      fit (Err why) e = tt
+
+  pub front_is : front_at r after ≡ front_of (fitted (length m) ns)
+  front_is = is r refl
+    where
+      is : (x : Result ℕ Refusal) → r ≡ x → front_at x after ≡ front_of (fitted (length m) ns)
+      is (Ok k) e = (front_part k e).0
+      is (Err why) e = front_none why e

@@ -8,7 +8,7 @@ use lib.ListN.{length, take, drop, length-append}
 use borrow.Author.Tests.{le-leb}
 use Rattle.types.specs.Limits.{max_levels}
 use Rattle.types.specs.Replies.{Reply, done, refused, refuse}
-use Rattle.types.specs.Answers.{reply_of_number}
+use Rattle.types.specs.Answers.{reply_of}
 use Rattle.types.specs.Written.{fitted, written}
 use Rattle.types.specs.declared.Refusal.{Refusal}
 use Rattle.types.specs.declared.Refusal.TheVariants as R
@@ -68,7 +68,7 @@ pub plan-written :
     (ns : Reply (List ℕ)) (b : OrderBook) (p : Plan) (o l m : List ℕ) → Plans (fitted (length o) ns) b p → let k = 2 * p.bids.count in
     l ≡ woven (bids_in p b) ++ drop k o →
     m ≡ woven (asks_in p b) ++ drop (2 * p.asks.count) (take (length l - k) (drop k l)) →
-    record { answer = reply_of_number p.answer; memory = take k l ++ (m ++ drop (length l - k) (drop k l)) } ≡ written ns o
+    record { answer = reply_of p.answer; memory = take k l ++ (m ++ drop (length l - k) (drop k l)) } ≡ written ns o
 plan-written ns b p o l m w e f =
     let x = fitted (length o) ns in
     let k = 2 * p.bids.count in

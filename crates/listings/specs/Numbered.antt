@@ -1,11 +1,9 @@
 -- The listings by their numbers.
 use Rattle.std.specs.Prelude.{ℕ, cond, List, [], ◌∷◌, map, ltb, get_or}
-use Rattle.types.specs.Replies.{Reply, done, refused, refuse}
+use Rattle.types.specs.Replies.{Reply, done, refused}
 use Rattle.types.specs.declared.Side.{Side}
 use Rattle.listings.specs.declared.Listing.{Listing}
 use Rattle.listings.specs.declared.Listing.TheVariants.{Top, Snapshot, Between}
-use Rattle.listings.specs.declared.numbered.Named.{Named}
-use Rattle.listings.specs.declared.numbered.Named.TheVariants.{Is, Refused}
 
 -- a number that fits no price becomes 0, which is none either
 abbrev pub narrowed : ℕ → ℕ
@@ -18,8 +16,3 @@ listings s from to = Top s from ∷ Snapshot from ∷ Between s (narrowed from) 
 -- the listing of a number, or 2 if it names none
 unfoldable pub listing_named : ℕ → Side → ℕ → ℕ → Reply Listing
 listing_named n s from to = get_or (map done (listings s from to)) n (refused 2 [])
-
--- a listing, or a refusal
-abbrev pub reply_of_listing : Named → Reply Listing
-reply_of_listing (Is l) = done l
-reply_of_listing (Refused r) = refuse r

@@ -4,19 +4,20 @@
 
 ghost use Rattle.std.specs.Prelude.{◌≡◌, length};
 ghost use Rattle.types.specs.Replies.{map_reply};
-ghost use Rattle.types.specs.Answers.{reply_of_number};
+ghost use Rattle.types.specs.Answers.{reply_of};
 ghost use Rattle.types.specs.Written.{fitted, written};
-ghost use Rattle.orderbook.specs.Lent.{lent_book};
+ghost use Rattle.orderbook.specs.Lent.{book_in};
 ghost use Rattle.listings.specs.Listed.{numbers_of, front_of};
+ghost use Rattle.listings.specs.Inner.Fronts.{PlacesFit, front_at};
 
 mod run; // run.rt: a run of a side's levels, written to the front of a buffer
 mod plan; // plan.rt: the run of each side that a listing takes, and the answer
 pub mod named; // named.rt: each listing of a book by value, under the original's name
 pub mod numbered; // numbered.rt: the listings by their numbers
 
-use deltas::Counts;
 use orderbook::OrderBook;
-use types::{NumberAnswer, Price, Side};
+use orderbook::lent::BookRows;
+use types::{Price, Refusal, Side};
 
 // The best so many levels of a side; the best so many of both sides, bids first; the levels of a side from one price to another, upward.
 #[derive(Clone, Copy)]
@@ -26,77 +27,37 @@ pub enum Listing {
     Between(Side, Price, Price),
 }
 
-// The places that a listing of a book that is lent as its rows fills in a buffer of `room` places, or the refusal.
-pub fn places_at<'a>(
-    bp: &'a [u32; 128],
-    bq: &'a [u32; 128],
-    ap: &'a [u32; 128],
-    aq: &'a [u32; 128],
-    counts: Counts,
-    listing: Listing,
-    room: usize,
-) -> NumberAnswer
-    ensures { reply_of_number result ≡ map_reply length (fitted room (numbers_of listing (lent_book bp bq ap aq counts))) }
+// The places that a listing of a book that is lent fills in a buffer of `room` places, or the refusal.
+pub fn places_at(book: BookRows<'_>, listing: Listing, room: usize) -> Result<u64, Refusal>
+    ensures { reply_of result ≡ map_reply length (fitted room (numbers_of listing (book_in book.entry))) }
 {
-    let plan = plan::plan_of(bp, bq, ap, aq, counts, listing).in_room(room);
+    let plan = plan::plan_of(book, listing).in_room(room);
     plan.answer
 }
 
 // Writes a listing to the front of `out`: bids first, and the rest is lent on for the asks. A refusal has none of either.
-pub fn write_at<'a>(
-    bp: &'a [u32; 128],
-    bq: &'a [u32; 128],
-    ap: &'a [u32; 128],
-    aq: &'a [u32; 128],
-    counts: Counts,
-    listing: Listing,
-    out: &mut [u32],
-) -> NumberAnswer
-    ensures { record { answer = reply_of_number result; memory = out.new } ≡ written (numbers_of listing (lent_book bp bq ap aq counts)) out.old }
+pub fn write_at(book: BookRows<'_>, listing: Listing, out: &mut [u32]) -> Result<u64, Refusal>
+    ensures { record { answer = reply_of result; memory = out.new } ≡ written (numbers_of listing (book_in book.entry)) out.old }
 {
-    let plan = plan::plan_of(bp, bq, ap, aq, counts, listing).in_room(out.len());
+    let plan = plan::plan_of(book, listing).in_room(out.len());
     let b = plan.bids.count;
-    run::write(bp, bq, plan.bids, out);
-    run::write(ap, aq, plan.asks, &mut out[2 * b..]);
+    run::write(book.bids, plan.bids, out);
+    run::write(book.asks, plan.asks, &mut out[2 * b..]);
     plan.answer
 }
 
 // The places that a listing of a book fills in a buffer of `room` places, or the refusal.
-pub fn places(book: OrderBook, listing: Listing, room: usize) -> NumberAnswer
-    ensures { reply_of_number result ≡ map_reply length (fitted room (numbers_of listing book)) }
+pub fn places(book: OrderBook, listing: Listing, room: usize) -> Result<u64, Refusal>
+    ensures { reply_of result ≡ map_reply length (fitted room (numbers_of listing book)) }
 {
-    places_at(
-        &book.bids.prices,
-        &book.bids.quantities,
-        &book.asks.prices,
-        &book.asks.quantities,
-        Counts {
-            bids: book.bids.count,
-            asks: book.asks.count,
-            sequence: book.sequence,
-        },
-        listing,
-        room,
-    )
+    places_at(book.rows(), listing, room)
 }
 
 // Writes a listing of a book to the front of `out`.
-pub fn write(book: OrderBook, listing: Listing, out: &mut [u32]) -> NumberAnswer
-    ensures { record { answer = reply_of_number result; memory = out.new } ≡ written (numbers_of listing book) out.old }
+pub fn write(book: OrderBook, listing: Listing, out: &mut [u32]) -> Result<u64, Refusal>
+    ensures { record { answer = reply_of result; memory = out.new } ≡ written (numbers_of listing book) out.old }
 {
-    write_at(
-        &book.bids.prices,
-        &book.bids.quantities,
-        &book.asks.prices,
-        &book.asks.quantities,
-        Counts {
-            bids: book.bids.count,
-            asks: book.asks.count,
-            sequence: book.sequence,
-        },
-        listing,
-        out,
-    )
+    write_at(book.rows(), listing, out)
 }
 
 // The front of `out` that a listing of a book fills: empty on a refusal.
@@ -104,9 +65,17 @@ pub fn list<'a>(book: OrderBook, listing: Listing, out: &'a mut [u32]) -> &'a mu
     ensures { (result.ref_ptr ≡ out.entry.ref_ptr) × (result.now ≡ front_of (fitted (length out.old) (numbers_of listing book))) }
 {
     let answer = write(book, listing, out);
-    let NumberAnswer::Is(places) = answer else {
-        return &mut out[..0];
+    front(answer, out)
+}
+
+// The front of a buffer that an answer's places fill: empty on a refusal.
+pub fn front(answer: Result<u64, Refusal>, out: &mut [u32]) -> &mut [u32]
+    requires { PlacesFit answer out.old }
+    ensures { (result.ref_ptr ≡ out.entry.ref_ptr) × (result.now ≡ front_at answer out.old) }
+{
+    let k = match answer {
+        Ok(places) => places as usize,
+        Err(_) => 0,
     };
-    let k = places as usize;
     &mut out[..k]
 }

@@ -1,16 +1,10 @@
 // The listings by their numbers, for callers that are not Rattle.
 ghost use Rattle.std.specs.Prelude.{◌≡◌};
-ghost use Rattle.listings.specs.Numbered.{narrowed, listing_named, reply_of_listing};
+ghost use Rattle.types.specs.Answers.{reply_of};
+ghost use Rattle.listings.specs.Numbered.{narrowed, listing_named};
 
 use crate::Listing;
 use types::{Price, Refusal, Side};
-
-// A listing, or that the number names none.
-#[derive(Clone, Copy)]
-pub enum Named {
-    Is(Listing),
-    Refused(Refusal),
-}
 
 // A number that no price can be becomes 0, which is none either.
 fn narrowed(number: u64) -> Price
@@ -23,13 +17,13 @@ fn narrowed(number: u64) -> Price
 }
 
 // The listings from 0 to 2; 2 for any other number. `from` is a count, or the lower price of a range up to `to`.
-pub fn listing_of(number: u64, side: Side, from: u64, to: Price) -> Named
-    ensures { reply_of_listing result ≡ listing_named number side from to }
+pub fn listing_of(number: u64, side: Side, from: u64, to: Price) -> Result<Listing, Refusal>
+    ensures { reply_of result ≡ listing_named number side from to }
 {
-    Named::Is(match number {
+    Ok(match number {
         0 => Listing::Top(side, from as usize),
         1 => Listing::Snapshot(from as usize),
         2 => Listing::Between(side, narrowed(from), to),
-        _ => return Named::Refused(Refusal::OutOfLimits),
+        _ => return Err(Refusal::OutOfLimits),
     })
 }

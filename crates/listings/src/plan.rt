@@ -1,23 +1,25 @@
 // What a listing takes of a book: a run of each side, and the answer. A refusal takes nothing, so that it is written without a question, and
-// fits any buffer: 11 comes last.
-ghost use Rattle.std.specs.Prelude.{◌≡◌, true, false, ◌≤◌, min, length, take};
-ghost use Rattle.levels.specs.Order.{ahead_of, in_order};
-ghost use Rattle.orderbook.specs.Lent.{lent_book};
+// fits any buffer: 11 comes last. So the answer stays beside the runs: a `Result` of the runs has no runs at a refusal, and the edit that lets a
+// refusal write a level (refusal_writes_a_bid) could not be made.
+ghost use Rattle.std.specs.Prelude.{◌≡◌, true, false, ◌≤◌, min, take};
+ghost use Rattle.levels.specs.Order.{ahead_of};
+ghost use Rattle.sides.specs.Inner.Limits.{OfSide};
+ghost use Rattle.orderbook.specs.Lent.{book_in};
 ghost use Rattle.listings.specs.Listed.{is_range, numbers_of};
 ghost use Rattle.listings.specs.Inner.Plans.{nothing, taking, in_room, best_runs, run_between, range_runs, Plans};
 
 use crate::Listing;
 use crate::run::Run;
 use deltas::Counts;
-use levels::search::find;
-use orderbook::rows;
-use types::{NumberAnswer, Price, Refusal, Side};
+use levels::lent::SideRows;
+use orderbook::lent::BookRows;
+use types::{Price, Refusal, Side};
 
 #[derive(Clone, Copy)]
 pub struct Plan {
     pub bids: Run,
     pub asks: Run,
-    pub answer: NumberAnswer,
+    pub answer: Result<u64, Refusal>,
 }
 
 // No levels.
@@ -34,7 +36,7 @@ fn nothing(why: Refusal) -> Plan
     Plan {
         bids: NONE,
         asks: NONE,
-        answer: NumberAnswer::Refused(why),
+        answer: Err(why),
     }
 }
 
@@ -47,7 +49,7 @@ fn taking(bids: Run, asks: Run) -> Plan
     Plan {
         bids,
         asks,
-        answer: NumberAnswer::Is(places as u64),
+        answer: Ok(places as u64),
     }
 }
 
@@ -102,20 +104,13 @@ fn is_range(lo: Price, hi: Price) -> bool
     lo <= hi
 }
 
-// The levels from the price `first` to the price `last`, which is not ahead of it, of a side with `n` prices.
-fn run_between(
-    side: Side,
-    prices: &[u32; 128],
-    n: usize,
-    first: Price,
-    last: Price,
-    turned: bool,
-) -> Run
-    requires { (length prices.now ≡ 128) × (n ≤ 128) × (in_order side (take n prices.now) ≡ true) × (ahead_of side last first ≡ false) }
-    ensures { result ≡ run_between side first last turned (take n prices.now) }
+// The levels from the price `first` to the price `last`, which is not ahead of it.
+fn run_between(side: Side, lent: SideRows<'_>, first: Price, last: Price, turned: bool) -> Run
+    requires { OfSide side lent × (ahead_of side last first ≡ false) }
+    ensures { result ≡ run_between side first last turned (take lent.entry.count lent.entry.prices.now) }
 {
-    let from = find(side, prices, n, first).ahead();
-    let end = find(side, prices, n, last).reached();
+    let from = lent.find(side, first).ahead();
+    let end = lent.find(side, last).reached();
     Run {
         from,
         count: end - from,
@@ -123,46 +118,33 @@ fn run_between(
     }
 }
 
-// The levels from `lo` to `hi` of a side with `n` prices, upward: bids come the other way round.
-fn range_runs(side: Side, prices: &[u32; 128], n: usize, lo: Price, hi: Price) -> Plan
-    requires { (length prices.now ≡ 128) × (n ≤ 128) × (in_order side (take n prices.now) ≡ true) }
-    ensures { result ≡ range_runs side lo hi (take n prices.now) }
+// The levels from `lo` to `hi`, upward: bids come the other way round.
+fn range_runs(side: Side, lent: SideRows<'_>, lo: Price, hi: Price) -> Plan
+    requires { OfSide side lent }
+    ensures { result ≡ range_runs side lo hi (take lent.entry.count lent.entry.prices.now) }
 {
     if !is_range(lo, hi) {
         return nothing(Refusal::OutOfLimits);
     }
     match side {
-        Side::Bid => taking(run_between(side, prices, n, hi, lo, true), NONE),
-        Side::Ask => taking(NONE, run_between(side, prices, n, lo, hi, false)),
+        Side::Bid => taking(run_between(side, lent, hi, lo, true), NONE),
+        Side::Ask => taking(NONE, run_between(side, lent, lo, hi, false)),
     }
 }
 
-// What a listing takes of a book that is lent as its rows.
-pub(crate) fn plan_of<'a>(
-    bp: &'a [u32; 128],
-    bq: &'a [u32; 128],
-    ap: &'a [u32; 128],
-    aq: &'a [u32; 128],
-    counts: Counts,
-    listing: Listing,
-) -> Plan
-    ensures { Plans (numbers_of listing (lent_book bp bq ap aq counts)) (lent_book bp bq ap aq counts) result }
+// What a listing takes of a book that is lent.
+pub(crate) fn plan_of(book: BookRows<'_>, listing: Listing) -> Plan
+    ensures { Plans (numbers_of listing (book_in book.entry)) (book_in book.entry) result }
 {
-    if !rows::is_book(bp, bq, ap, aq, counts) {
+    if !book.is_book() {
         return nothing(Refusal::NotARecord);
     }
     match listing {
         Listing::Top(side, n) => match side {
-            Side::Bid => best_runs(n, 0, counts),
-            Side::Ask => best_runs(0, n, counts),
+            Side::Bid => best_runs(n, 0, book.counts()),
+            Side::Ask => best_runs(0, n, book.counts()),
         },
-        Listing::Snapshot(n) => best_runs(n, n, counts),
-        Listing::Between(side, lo, hi) => range_runs(
-            side,
-            rows::row_of(side, bp, ap),
-            counts.of(side),
-            lo,
-            hi,
-        ),
+        Listing::Snapshot(n) => best_runs(n, n, book.counts()),
+        Listing::Between(side, lo, hi) => range_runs(side, book.side(side), lo, hi),
     }
 }

@@ -3,6 +3,8 @@ ghost use Rattle.std.specs.Prelude.{◌≡◌, ◌++◌, ◌+◌, ◌*◌, ◌�
 ghost use Rattle.listings.specs.Listed.{woven};
 ghost use Rattle.listings.specs.Inner.Runs.{every_place, in_run, place_of};
 
+use levels::lent::SideRows;
+
 // `count` levels from the place `from` on; turned, the last of them comes first.
 #[derive(Clone, Copy)]
 pub struct Run {
@@ -22,21 +24,14 @@ fn place(run: Run, i: usize) -> usize
     run.from + i
 }
 
-// Writes a run of the rows' levels to the front of `out`.
-pub(crate) fn write<'a>(
-    prices: &'a [u32; 128],
-    quantities: &'a [u32; 128],
-    run: Run,
-    out: &mut [u32],
-)
-    requires { (length prices.now ≡ 128) × (length quantities.now ≡ 128) × (run.from + run.count ≤ 128) × (2 * run.count ≤ length out.old) }
-    ensures { out.new ≡ woven (in_run run (every_place prices.now quantities.now)) ++ drop (2 * run.count) out.old }
+// Writes a run of a side's levels to the front of `out`.
+pub(crate) fn write(lent: SideRows<'_>, run: Run, out: &mut [u32])
+    requires { (run.from + run.count ≤ 128) × (2 * run.count ≤ length out.old) }
+    ensures { out.new ≡ woven (in_run run (every_place lent.entry.prices.now lent.entry.quantities.now)) ++ drop (2 * run.count) out.old }
 {
-    let mut i: usize = 0;
-    while i < run.count {
+    for i in 0..run.count {
         let at = place(run, i);
-        out[2 * i] = prices[at];
-        out[2 * i + 1] = quantities[at];
-        i += 1;
+        out[2 * i] = lent.prices[at];
+        out[2 * i + 1] = lent.quantities[at];
     }
 }

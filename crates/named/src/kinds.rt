@@ -1,153 +1,62 @@
 // The questions of one kind, of a book by value: thin, over the book lent as its rows.
 ghost use Rattle.std.specs.Prelude.{◌≡◌};
-ghost use Rattle.types.specs.Answers.{reply_of_number, reply_of_flag, reply_of_level, reply_of_quote};
-ghost use Rattle.quotient.specs.Over.{reply_of_ratio};
+ghost use Rattle.types.specs.Answers.{reply_of};
 ghost use Rattle.questions.specs.Questions.{best, best_quote};
 ghost use Rattle.questions.specs.Kinds.{book_number, side_number, top_ratio, volume_ratio, trade_price, book_flag};
 
 use asked::{SideNumber, TopRatio, Trade, VolumeRatio};
-use deltas::Counts;
 use orderbook::OrderBook;
 use questions::kinds;
 use questions::kinds::{BookFlag, BookNumber};
-use quotient::Ratio;
-use types::{FlagAnswer, LevelAnswer, NumberAnswer, QuoteAnswer, Side};
+use quotient::Quotient;
+use types::{PriceLevel, Quote, Refusal, Side};
 
 // The best level of a side.
-pub fn best(book: OrderBook, side: Side) -> LevelAnswer
-    ensures { reply_of_level result ≡ best side book }
+pub fn best(book: OrderBook, side: Side) -> Result<PriceLevel, Refusal>
+    ensures { reply_of result ≡ best side book }
 {
-    kinds::best(
-        &book.bids.prices,
-        &book.bids.quantities,
-        &book.asks.prices,
-        &book.asks.quantities,
-        Counts {
-            bids: book.bids.count,
-            asks: book.asks.count,
-            sequence: book.sequence,
-        },
-        side,
-    )
+    kinds::best(book.rows(), side)
 }
 
 // Both best levels.
-pub fn best_quote(book: OrderBook) -> QuoteAnswer
-    ensures { reply_of_quote result ≡ best_quote book }
+pub fn best_quote(book: OrderBook) -> Result<Quote, Refusal>
+    ensures { reply_of result ≡ best_quote book }
 {
-    kinds::best_quote(
-        &book.bids.prices,
-        &book.bids.quantities,
-        &book.asks.prices,
-        &book.asks.quantities,
-        Counts {
-            bids: book.bids.count,
-            asks: book.asks.count,
-            sequence: book.sequence,
-        },
-    )
+    kinds::best_quote(book.rows())
 }
 
-pub fn number(book: OrderBook, question: BookNumber) -> NumberAnswer
-    ensures { reply_of_number result ≡ book_number question book }
+pub fn number(book: OrderBook, question: BookNumber) -> Result<u64, Refusal>
+    ensures { reply_of result ≡ book_number question book }
 {
-    kinds::number(
-        &book.bids.prices,
-        &book.bids.quantities,
-        &book.asks.prices,
-        &book.asks.quantities,
-        Counts {
-            bids: book.bids.count,
-            asks: book.asks.count,
-            sequence: book.sequence,
-        },
-        question,
-    )
+    kinds::number(book.rows(), question)
 }
 
-pub fn side_number(book: OrderBook, side: Side, question: SideNumber) -> NumberAnswer
-    ensures { reply_of_number result ≡ side_number side question book }
+pub fn side_number(book: OrderBook, side: Side, question: SideNumber) -> Result<u64, Refusal>
+    ensures { reply_of result ≡ side_number side question book }
 {
-    kinds::side_number(
-        &book.bids.prices,
-        &book.bids.quantities,
-        &book.asks.prices,
-        &book.asks.quantities,
-        Counts {
-            bids: book.bids.count,
-            asks: book.asks.count,
-            sequence: book.sequence,
-        },
-        side,
-        question,
-    )
+    kinds::side_number(book.rows(), side, question)
 }
 
-pub fn top_ratio(book: OrderBook, question: TopRatio) -> Ratio
-    ensures { reply_of_ratio result ≡ top_ratio question book }
+pub fn top_ratio(book: OrderBook, question: TopRatio) -> Result<Quotient, Refusal>
+    ensures { reply_of result ≡ top_ratio question book }
 {
-    kinds::top_ratio(
-        &book.bids.prices,
-        &book.bids.quantities,
-        &book.asks.prices,
-        &book.asks.quantities,
-        Counts {
-            bids: book.bids.count,
-            asks: book.asks.count,
-            sequence: book.sequence,
-        },
-        question,
-    )
+    kinds::top_ratio(book.rows(), question)
 }
 
-pub fn volume_ratio(book: OrderBook, question: VolumeRatio) -> Ratio
-    ensures { reply_of_ratio result ≡ volume_ratio question book }
+pub fn volume_ratio(book: OrderBook, question: VolumeRatio) -> Result<Quotient, Refusal>
+    ensures { reply_of result ≡ volume_ratio question book }
 {
-    kinds::volume_ratio(
-        &book.bids.prices,
-        &book.bids.quantities,
-        &book.asks.prices,
-        &book.asks.quantities,
-        Counts {
-            bids: book.bids.count,
-            asks: book.asks.count,
-            sequence: book.sequence,
-        },
-        question,
-    )
+    kinds::volume_ratio(book.rows(), question)
 }
 
-pub fn trade_price(book: OrderBook, side: Side, trade: Trade) -> Ratio
-    ensures { reply_of_ratio result ≡ trade_price trade side book }
+pub fn trade_price(book: OrderBook, side: Side, trade: Trade) -> Result<Quotient, Refusal>
+    ensures { reply_of result ≡ trade_price trade side book }
 {
-    kinds::trade_price(
-        &book.bids.prices,
-        &book.bids.quantities,
-        &book.asks.prices,
-        &book.asks.quantities,
-        Counts {
-            bids: book.bids.count,
-            asks: book.asks.count,
-            sequence: book.sequence,
-        },
-        side,
-        trade,
-    )
+    kinds::trade_price(book.rows(), side, trade)
 }
 
-pub fn flag(book: OrderBook, question: BookFlag) -> FlagAnswer
-    ensures { reply_of_flag result ≡ book_flag question book }
+pub fn flag(book: OrderBook, question: BookFlag) -> Result<bool, Refusal>
+    ensures { reply_of result ≡ book_flag question book }
 {
-    kinds::flag(
-        &book.bids.prices,
-        &book.bids.quantities,
-        &book.asks.prices,
-        &book.asks.quantities,
-        Counts {
-            bids: book.bids.count,
-            asks: book.asks.count,
-            sequence: book.sequence,
-        },
-        question,
-    )
+    kinds::flag(book.rows(), question)
 }

@@ -1,107 +1,76 @@
-// Numbers and what they name, for callers that are not Rattle: a delta, a question, a listing and a receiver's state by their numbers, and the numbers
-// of a line's kind and of a state. Numbers that name nothing are 2, after 1 for a record that is no book.
+// Numbers and what they name, for callers that are not Rattle: a delta, a question and a listing by their numbers, and the number of a line's kind.
+// Numbers that name nothing are 2, after 1 for a record that is no book. They are numbers because the C interface has no enums with values.
 #![tactic(auto)]
 
 ghost use Rattle.std.specs.Prelude.{◌≡◌};
 ghost use Rattle.types.specs.Replies.{refuse};
 ghost use Rattle.told.specs.Numbers.{tell, nothing};
 ghost use Rattle.orderbook.specs.Book.{of_book};
-ghost use Rattle.orderbook.specs.Lent.{lent_book};
-ghost use Rattle.listings.specs.Numbered.{reply_of_listing};
-ghost use Rattle.questions.specs.Numbered.{reply_of_question};
-ghost use Rattle.frames.specs.Decode.{reply_of_delta};
-ghost use Rattle.lines.specs.Read.{reply_of_frame};
+ghost use Rattle.types.specs.Answers.{reply_of};
+ghost use Rattle.orderbook.specs.Lent.{book_in};
+ghost use Rattle.lines.specs.Read.{read_of};
 ghost use Rattle.names.specs.Names.{delta_by, question_by, listing_by};
-ghost use Rattle.names.specs.Kinds.{kind_of, state_if, state_number};
+ghost use Rattle.names.specs.Kinds.{kind_of};
 
-use deltas::{BookDelta, Counts, DeltaAction};
-use frames::DeltaAnswer;
-use lines::FrameAnswer;
-use orderbook::{OrderBook, rows};
-use receiver::State;
+use deltas::{BookDelta, DeltaAction};
+use lines::ReadFrame;
+use listings::Listing;
+use orderbook::lent::BookRows;
+use questions::Question;
 use told::Told;
-use types::{NumberAnswer, Refusal, Side};
+use told::answers::Tells;
+use types::{Refusal, Side};
 
 // A delta: sides and actions are 0 and 1.
-pub fn delta_of(side: u64, action: u64, price: u32, quantity: u32, sequence: u64) -> DeltaAnswer
-    ensures { reply_of_delta result ≡ delta_by side action price quantity sequence }
+pub fn delta_of(
+    side: u64,
+    action: u64,
+    price: u32,
+    quantity: u32,
+    sequence: u64,
+) -> Result<BookDelta, Refusal>
+    ensures { reply_of result ≡ delta_by side action price quantity sequence }
 {
-    if side > 1 {
-        return DeltaAnswer::Refused(Refusal::OutOfLimits);
-    }
-    if action > 1 {
-        return DeltaAnswer::Refused(Refusal::OutOfLimits);
-    }
-    DeltaAnswer::Is(BookDelta {
-        side: Side::of(side == 1),
+    Ok(BookDelta {
+        side: Side::try_from(side)?,
         price,
         quantity,
-        action: DeltaAction::of(action == 1),
+        action: DeltaAction::try_from(action)?,
         sequence,
     })
 }
 
 // A question. `small` is its price or quantity, `large` its count or volume; a question takes what it needs.
-pub fn question_of(number: u64, side: u64, small: u32, large: u64) -> questions::numbered::Named
-    ensures { reply_of_question result ≡ question_by number side small large }
+pub fn question_of(number: u64, side: u64, small: u32, large: u64) -> Result<Question, Refusal>
+    ensures { reply_of result ≡ question_by number side small large }
 {
-    if side > 1 {
-        return questions::numbered::Named::Refused(Refusal::OutOfLimits);
-    }
-    questions::numbered::question_of(number, Side::of(side == 1), small, large)
+    questions::numbered::question_of(number, Side::try_from(side)?, small, large)
 }
 
 // A listing. `from` is its count, or the lower price of a range up to `to`.
-pub fn listing_of(number: u64, side: u64, from: u64, to: u32) -> listings::numbered::Named
-    ensures { reply_of_listing result ≡ listing_by number side from to }
+pub fn listing_of(number: u64, side: u64, from: u64, to: u32) -> Result<Listing, Refusal>
+    ensures { reply_of result ≡ listing_by number side from to }
 {
-    if side > 1 {
-        return listings::numbered::Named::Refused(Refusal::OutOfLimits);
-    }
-    listings::numbered::listing_of(number, Side::of(side == 1), from, to)
+    listings::numbered::listing_of(number, Side::try_from(side)?, from, to)
 }
 
 // The refusal of numbers that name nothing, after 1 if the rows make no book.
-pub fn refused<'a>(
-    bp: &'a [u32; 128],
-    bq: &'a [u32; 128],
-    ap: &'a [u32; 128],
-    aq: &'a [u32; 128],
-    counts: Counts,
-    why: Refusal,
-) -> Told
-    ensures { result ≡ tell nothing (of_book (lent_book bp bq ap aq counts) (refuse why)) }
+pub fn refused(book: BookRows<'_>, why: Refusal) -> Told
+    ensures { result ≡ tell nothing (of_book (book_in book.entry) (refuse why)) }
 {
-    if rows::is_book(bp, bq, ap, aq, counts) {
-        return Told::of_refusal(why);
+    if book.is_book() {
+        return Told::from(why);
     }
-    Told::of_refusal(Refusal::NotARecord)
+    Told::from(Refusal::NotARecord)
 }
 
 // A frame's kind, or the refusal.
-pub fn kind_told(answer: FrameAnswer, book: OrderBook) -> Told
-    ensures { result ≡ tell kind_of (reply_of_frame answer book) }
+pub fn kind_told(read: Result<ReadFrame, Refusal>) -> Told
+    ensures { result ≡ tell kind_of (read_of read).reply }
 {
-    match answer {
-        FrameAnswer::Delta(_) => Told::of_number(NumberAnswer::Is(1)),
-        FrameAnswer::Snapshot => Told::of_number(NumberAnswer::Is(2)),
-        FrameAnswer::Refused(why) => Told::of_refusal(why),
-    }
-}
-
-// Live where the flag is set, else waiting.
-pub fn state_of(live: bool) -> State
-    ensures { result ≡ state_if live }
-{
-    if live { State::Live } else { State::Waiting }
-}
-
-// 0 waiting, 1 live.
-pub fn state_number(state: State) -> u64
-    ensures { result ≡ state_number state }
-{
-    match state {
-        State::Waiting => 0,
-        State::Live => 1,
+    match read {
+        Ok(ReadFrame::Delta(_)) => 1u64.told(),
+        Ok(ReadFrame::Snapshot(_)) => 2u64.told(),
+        Err(why) => Told::from(why),
     }
 }

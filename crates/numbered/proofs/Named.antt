@@ -1,13 +1,13 @@
 -- What a call makes of numbers that name something, and of those that name nothing.
+use Rattle.std.specs.Prelude.{Result}
 use Prim.Native.Nat.{ℕ}
 use mathlib.Core.Path.{◌≡◌, refl, sym, ap, ◌∙◌}
 use mathlib.Core.List.{List, []}
 use lib.IntN.{ℤ}
 use lib.ListN.{length}
 use Rattle.types.specs.Replies.{Reply, done, refused, refuse, map_reply}
-use Rattle.types.specs.Answers.{reply_of_number}
+use Rattle.types.specs.Answers.{reply_of}
 use Rattle.types.specs.Written.{Left, fitted, written}
-use Rattle.types.specs.declared.NumberAnswer.{NumberAnswer}
 use Rattle.types.specs.declared.Refusal.{Refusal}
 use Rattle.types.proofs.Booleans.{by}
 use Rattle.told.specs.declared.Told.{Told}
@@ -51,7 +51,7 @@ module _ {A : Type 0} (b : OrderBook) (f : A → Reply (List ℕ)) (x : Reply A)
 
 -- what a writer left, its answer told
 pub left-told :
-    (r : NumberAnswer) (t : Told) (after : List ℕ) (w : Left (Reply ℕ)) → t ≡ tell one_number (reply_of_number r) → record { answer = reply_of_number r; memory = after } ≡ w →
+    (r : Result ℕ Refusal) (t : Told) (after : List ℕ) (w : Left (Reply ℕ)) → t ≡ tell one_number (reply_of r) → record { answer = reply_of r; memory = after } ≡ w →
     ◌≡◌ {A = Left Told} (record { answer = t; memory = after }) (told_left w)
 left-told r t after w e h = rw e (ap told_left h)
 

@@ -9,7 +9,8 @@ use Rattle.listings.specs.Listed.{numbers_of}
 use Rattle.orderbook.specs.declared.OrderBook.{OrderBook}
 use Rattle.orderbook.specs.Book.{of_book}
 use Rattle.orderbook.specs.Apply.{Change, applied, side_cleared}
-use Rattle.questions.specs.Asked.{Value, book_ask}
+use Rattle.questions.specs.declared.Value.{Value}
+use Rattle.questions.specs.Asked.{book_ask}
 use Rattle.names.specs.Names.{side_by, delta_by, question_by, listing_by, reply_to}
 
 -- a book, and an answer in numbers

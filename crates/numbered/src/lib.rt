@@ -1,20 +1,20 @@
 // A book's changes, questions and listings by their numbers, on lent rows: each with its answer told. Crate exports has them under the names that
-// Rust and C link.
+// Rust and C link. Numbers stand for sides, actions, questions and listings, and what is changed is lent row by row: the C interface needs both.
 #![tactic(auto)]
 
 ghost use Rattle.std.specs.Prelude.{◌≡◌, length};
-ghost use Rattle.types.specs.Answers.{reply_of_outcome};
+ghost use Rattle.types.specs.Answers.{reply_of};
 ghost use Rattle.types.specs.Replies.{map_reply};
 ghost use Rattle.types.specs.Written.{fitted, written};
 ghost use Rattle.told.specs.Numbers.{tell, nothing, one_number};
 ghost use Rattle.orderbook.specs.Apply.{cleared};
-ghost use Rattle.orderbook.specs.Lent.{book_at, lent_book};
+ghost use Rattle.orderbook.specs.Lent.{book_at, book_in};
 ghost use Rattle.questions.specs.Asked.{values_in};
 ghost use Rattle.numbered.specs.Books.{book_told, applied_by, cleared_by, asked_by, listed_by};
 ghost use Rattle.numbered.specs.Memory.{told_left};
 
-use deltas::{Counts, RowsApplied};
-use frames::DeltaAnswer;
+use deltas::Counts;
+use orderbook::lent::BookRows;
 use orderbook::rows;
 use told::Told;
 use types::{Refusal, Side};
@@ -28,14 +28,12 @@ pub struct CountsTold {
 }
 
 // What a change left beside the rows, its outcome told.
-fn given(applied: RowsApplied) -> CountsTold
-    ensures { result ≡ record { counts = applied.counts; told = tell nothing (reply_of_outcome applied.outcome) } }
+fn given(counts: Counts, outcome: Result<(), Refusal>) -> CountsTold
+    ensures { result ≡ record { counts = counts; told = tell nothing (reply_of outcome) } }
 {
-    let counts = applied.counts;
-    let outcome = applied.outcome;
     CountsTold {
         counts,
-        told: Told::of_outcome(outcome),
+        told: Told::of(outcome),
     }
 }
 
@@ -54,11 +52,15 @@ pub fn apply_delta(
 ) -> CountsTold
     ensures { record { book = book_at bp.new bq.new ap.new aq.new result.counts; told = result.told } ≡ book_told (applied_by (book_at bp.old bq.old ap.old aq.old counts) side action price quantity sequence) }
 {
+    let mut after = counts;
     match names::delta_of(side, action, price, quantity, sequence) {
-        DeltaAnswer::Is(delta) => given(rows::apply_delta(bp, bq, ap, aq, counts, delta)),
-        DeltaAnswer::Refused(why) => CountsTold {
+        Ok(delta) => {
+            let outcome = rows::apply_delta(bp, bq, ap, aq, &mut after, delta);
+            given(after, outcome)
+        }
+        Err(why) => CountsTold {
             counts,
-            told: names::refused(bp, bq, ap, aq, counts, why),
+            told: names::refused(BookRows::of(bp, bq, ap, aq, counts), why),
         },
     }
 }
@@ -72,7 +74,9 @@ pub fn clear(
 ) -> CountsTold
     ensures { record { book = book_at bp.new bq.new ap.new aq.new result.counts; told = result.told } ≡ book_told (cleared (book_at bp.old bq.old ap.old aq.old counts)) }
 {
-    given(rows::clear(bp, bq, ap, aq, counts))
+    let mut after = counts;
+    let outcome = rows::clear(bp, bq, ap, aq, &mut after);
+    given(after, outcome)
 }
 
 // Empties the side of this number; one that names none leaves the rows.
@@ -86,83 +90,52 @@ pub fn remove_all(
 ) -> CountsTold
     ensures { record { book = book_at bp.new bq.new ap.new aq.new result.counts; told = result.told } ≡ book_told (cleared_by (book_at bp.old bq.old ap.old aq.old counts) side) }
 {
-    if side > 1 {
-        return CountsTold {
+    let mut after = counts;
+    match Side::try_from(side) {
+        Ok(side) => {
+            let outcome = rows::remove_all(bp, bq, ap, aq, &mut after, side);
+            given(after, outcome)
+        }
+        Err(why) => CountsTold {
             counts,
-            told: names::refused(bp, bq, ap, aq, counts, Refusal::OutOfLimits),
-        };
+            told: names::refused(BookRows::of(bp, bq, ap, aq, counts), why),
+        },
     }
-    given(rows::remove_all(bp, bq, ap, aq, counts, Side::of(side == 1)))
 }
 
 // The book's answer to a question.
-pub fn ask<'a>(
-    bp: &'a [u32; 128],
-    bq: &'a [u32; 128],
-    ap: &'a [u32; 128],
-    aq: &'a [u32; 128],
-    counts: Counts,
-    question: u64,
-    side: u64,
-    small: u32,
-    large: u64,
-) -> Told
-    ensures { result ≡ tell values_in (asked_by (lent_book bp bq ap aq counts) question side small large) }
+pub fn ask(book: BookRows<'_>, question: u64, side: u64, small: u32, large: u64) -> Told
+    ensures { result ≡ tell values_in (asked_by (book_in book.entry) question side small large) }
 {
     match names::question_of(question, side, small, large) {
-        questions::numbered::Named::Is(q) => questions::ask_at(bp, bq, ap, aq, counts, q).told(),
-        questions::numbered::Named::Refused(why) => names::refused(bp, bq, ap, aq, counts, why),
+        Ok(question) => Told::of(questions::ask_at(book, question)),
+        Err(why) => names::refused(book, why),
     }
 }
 
 // The places that a listing fills in memory of `room` places.
-pub fn places<'a>(
-    bp: &'a [u32; 128],
-    bq: &'a [u32; 128],
-    ap: &'a [u32; 128],
-    aq: &'a [u32; 128],
-    counts: Counts,
-    listing: u64,
-    side: u64,
-    from: u64,
-    to: u32,
-    room: u64,
-) -> Told
-    ensures { result ≡ tell one_number (map_reply length (fitted room (listed_by (lent_book bp bq ap aq counts) listing side from to))) }
+pub fn places(book: BookRows<'_>, listing: u64, side: u64, from: u64, to: u32, room: u64) -> Told
+    ensures { result ≡ tell one_number (map_reply length (fitted room (listed_by (book_in book.entry) listing side from to))) }
 {
     match names::listing_of(listing, side, from, to) {
-        listings::numbered::Named::Is(l) => Told::of_number(listings::places_at(
-            bp,
-            bq,
-            ap,
-            aq,
-            counts,
-            l,
-            room as usize,
-        )),
-        listings::numbered::Named::Refused(why) => names::refused(bp, bq, ap, aq, counts, why),
+        Ok(listing) => Told::of(listings::places_at(book, listing, room as usize)),
+        Err(why) => names::refused(book, why),
     }
 }
 
 // Writes a listing to the front of lent memory: price, quantity, price, quantity.
-pub fn list<'a>(
-    bp: &'a [u32; 128],
-    bq: &'a [u32; 128],
-    ap: &'a [u32; 128],
-    aq: &'a [u32; 128],
-    counts: Counts,
+pub fn list(
+    book: BookRows<'_>,
     listing: u64,
     side: u64,
     from: u64,
     to: u32,
     out: &mut [u32],
 ) -> Told
-    ensures { record { answer = result; memory = out.new } ≡ told_left (written (listed_by (lent_book bp bq ap aq counts) listing side from to) out.old) }
+    ensures { record { answer = result; memory = out.new } ≡ told_left (written (listed_by (book_in book.entry) listing side from to) out.old) }
 {
     match names::listing_of(listing, side, from, to) {
-        listings::numbered::Named::Is(l) => Told::of_number(listings::write_at(
-            bp, bq, ap, aq, counts, l, out,
-        )),
-        listings::numbered::Named::Refused(why) => names::refused(bp, bq, ap, aq, counts, why),
+        Ok(listing) => Told::of(listings::write_at(book, listing, out)),
+        Err(why) => names::refused(book, why),
     }
 }

@@ -9,58 +9,38 @@ ghost use Rattle.numerals.specs.Inner.Sizes.{size_of};
 
 use amount::Amount;
 
-// A word as a number without a sign, and as one with a sign: or it is something else.
-#[derive(Clone, Copy)]
-pub enum Number {
-    Is(u64),
-    Other,
-}
-
-#[derive(Clone, Copy)]
-pub enum Signed {
-    Is(Amount),
-    Other,
-}
-
 // The sizes of the largest and the least i64.
 const LARGEST: u64 = 9_223_372_036_854_775_807;
 
 const LEAST: u64 = 9_223_372_036_854_775_808;
 
 // A number with one more digit.
-fn with_digit(n: u64, byte: u8, limit: u64) -> Number
+fn with_digit(n: u64, byte: u8, limit: u64) -> Option<u64>
     requires { 9 ≤ limit }
     ensures { (result ≡ with_digit limit n byte) × (size_of result ≤ limit) }
 {
-    if byte >= b'0' {
-        if byte <= b'9' {
-            let digit = (byte - b'0') as u64;
-            if n <= (limit - digit) / 10 {
-                return Number::Is(n * 10 + digit);
-            }
+    if byte.is_ascii_digit() {
+        let digit = u64::from(byte - b'0');
+        if n <= (limit - digit) / 10 {
+            return Some(n * 10 + digit);
         }
     }
-    Number::Other
+    None
 }
 
 // The number that a word is, up to a limit.
-pub fn read_number(word: &[u8], limit: u64) -> Number
+pub fn read_number(word: &[u8], limit: u64) -> Option<u64>
     requires { 9 ≤ limit }
     ensures { (result ≡ numeral_up_to limit word.now) × (size_of result ≤ limit) }
 {
-    if word.len() == 0 {
-        return Number::Other;
+    if word.is_empty() {
+        return None;
     }
     let mut n = 0;
-    let mut i = 0;
-    while i < word.len() {
-        let Number::Is(more) = with_digit(n, word[i], limit) else {
-            return Number::Other;
-        };
-        n = more;
-        i += 1;
+    for byte in word {
+        n = with_digit(n, *byte, limit)?;
     }
-    Number::Is(n)
+    Some(n)
 }
 
 // The number below zero of this size.
@@ -74,34 +54,14 @@ fn negative(size: u64) -> Amount
     Amount { value: i64::MIN }
 }
 
-fn of_size(n: Number) -> Signed
-    requires { size_of n ≤ 9223372036854775807 }
-    ensures { result ≡ above n }
-{
-    match n {
-        Number::Is(size) => Signed::Is(Amount::of(size)),
-        Number::Other => Signed::Other,
-    }
-}
-
-fn of_negative(n: Number) -> Signed
-    requires { size_of n ≤ 9223372036854775808 }
-    ensures { result ≡ below n }
-{
-    match n {
-        Number::Is(size) => Signed::Is(negative(size)),
-        Number::Other => Signed::Other,
-    }
-}
-
 // The number that a word is, a minus sign before its digits or none.
-pub fn read_signed(word: &[u8]) -> Signed
+pub fn read_signed(word: &[u8]) -> Option<Amount>
     ensures { result ≡ signed_of word.now }
 {
-    if word.len() > 0 {
-        if word[0] == b'-' {
-            return of_negative(read_number(&word[1..], LEAST));
-        }
+    if let [b'-', digits @ ..] = word {
+        let size = read_number(digits, LEAST)?;
+        return Some(negative(size));
     }
-    of_size(read_number(word, LARGEST))
+    let size = read_number(word, LARGEST)?;
+    Some(Amount::of(size))
 }

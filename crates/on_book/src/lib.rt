@@ -1,35 +1,30 @@
-// The operations on the book.
+// The operations on the book. Their numbers are those of the lists that are replayed.
 #![tactic(auto)]
 
 use fields::{delta, number, side, small};
 use listings::Listing;
-use listings::numbered::Named as NamedListing;
 use orderbook::{Applied, OrderBook};
-use questions::Answer;
-use questions::numbered::Named;
+use questions::Value;
 use told::Told;
-use types::{NumberAnswer, Side};
+use types::{Refusal, Side};
 
-fn changed(rt: &impl Print, a: Applied) -> OrderBook {
-    let outcome = a.outcome;
-    output::told(rt, Told::of_outcome(outcome));
-    a.book
+// What became of a change; the book that it gave back takes the place of the one before.
+fn changed(rt: &impl Print, change: Applied, book: &mut OrderBook) {
+    output::told(rt, Told::of(change.outcome));
+    *book = change.book;
 }
 
-fn asked(book: OrderBook, line: &[u8]) -> Answer {
-    let named = questions::numbered::question_of(
+fn asked(book: &OrderBook, line: &[u8]) -> Result<Value, Refusal> {
+    let question = questions::numbered::question_of(
         number(line, 1),
         side(line, 2),
         small(line, 3),
         number(line, 4),
-    );
-    match named {
-        Named::Is(question) => questions::ask(book, question),
-        Named::Refused(why) => Answer::Refused(why),
-    }
+    )?;
+    questions::ask(*book, question)
 }
 
-fn listing(line: &[u8]) -> NamedListing {
+fn listing(line: &[u8]) -> Result<Listing, Refusal> {
     listings::numbered::listing_of(
         number(line, 1),
         side(line, 2),
@@ -38,80 +33,58 @@ fn listing(line: &[u8]) -> NamedListing {
     )
 }
 
-// The first `n` numbers of a list.
-fn values(rt: &impl Print, list: &[u32], n: u64) {
-    let mut i = 0;
-    while i < list.len() {
-        if i as u64 >= n {
-            return;
-        }
-        output::value(rt, list[i] as u64);
-        i += 1;
-    }
+// How many places a listing fills in a buffer of so many.
+fn places(book: &OrderBook, line: &[u8]) -> Result<u64, Refusal> {
+    listings::places(*book, listing(line)?, number(line, 5) as usize)
+}
+
+// Writes a listing, and answers how many numbers it has.
+fn written(book: &OrderBook, line: &[u8], list: &mut [u32]) -> Result<u64, Refusal> {
+    listings::write(*book, listing(line)?, list)
 }
 
 // A listing in a buffer with room for any.
-fn listed(rt: &impl Print, book: OrderBook, listing: Listing) {
+fn listed(rt: &impl Print, book: &OrderBook, line: &[u8]) {
     let mut list = [0u32; 512];
-    let written = listings::write(book, listing, &mut list);
-    output::told(rt, Told::of_number(written));
-    if let NumberAnswer::Is(n) = written {
-        values(rt, &list, n);
-    }
-}
-
-// A listing, or how many places it fills in a buffer of so many.
-fn listings_of(rt: &impl Print, book: OrderBook, places: bool, line: &[u8]) {
-    match listing(line) {
-        NamedListing::Is(listing) => {
-            if places {
-                let room = number(line, 5) as usize;
-                output::told(rt, Told::of_number(listings::places(book, listing, room)));
-            } else {
-                listed(rt, book, listing);
-            }
+    let answer = written(book, line, &mut list);
+    output::told(rt, Told::of(answer));
+    if let Ok(n) = answer {
+        for value in list.iter().take(n as usize) {
+            output::value(rt, u64::from(*value));
         }
-        NamedListing::Refused(why) => output::told(rt, Told::of_refusal(why)),
     }
 }
 
-// The record with another count of a side, which may be no book.
-fn with_count(rt: &impl Print, mut book: OrderBook, of: Side, count: usize) -> OrderBook {
+// Another count of a side, with which the record may be no book.
+fn set_count(book: &mut OrderBook, of: Side, count: usize) {
     match of {
-        Side::Bid => {
-            book.bids.count = count;
-        }
-        Side::Ask => {
-            book.asks.count = count;
-        }
+        Side::Bid => book.bids.count = count,
+        Side::Ask => book.asks.count = count,
     }
-    output::number(rt, 0);
-    book
 }
 
-fn with_sequence(rt: &impl Print, mut book: OrderBook, sequence: u64) -> OrderBook {
-    book.sequence = sequence;
-    output::number(rt, 0);
-    book
-}
-
-pub fn step(rt: &impl Print, book: OrderBook, kind: u64, line: &[u8]) -> OrderBook {
+pub fn step(rt: &impl Print, book: &mut OrderBook, kind: u64, line: &[u8]) {
     match kind {
         0 => {
+            *book = OrderBook::new();
             output::number(rt, 0);
-            return OrderBook::new();
         }
-        1 => return changed(rt, book.apply_delta(delta(line))),
-        2 => return changed(rt, book.clear()),
-        3 => return changed(rt, book.remove_all(side(line, 1))),
+        1 => changed(rt, book.apply_delta(delta(line)), book),
+        2 => changed(rt, book.clear(), book),
+        3 => changed(rt, book.remove_all(side(line, 1)), book),
         4 => output::answer_cut(rt, asked(book, line)),
-        5 => listings_of(rt, book, false, line),
+        5 => listed(rt, book, line),
         12 => output::answer_exact(rt, asked(book, line)),
-        13 => listings_of(rt, book, true, line),
-        14 => return with_count(rt, book, side(line, 1), number(line, 2) as usize),
-        15 => return with_sequence(rt, book, number(line, 1)),
-        18 => return changed(rt, lent::apply_delta_over(book, delta(line))),
+        13 => output::told(rt, Told::of(places(book, line))),
+        14 => {
+            set_count(book, side(line, 1), number(line, 2) as usize);
+            output::number(rt, 0);
+        }
+        15 => {
+            book.sequence = number(line, 1);
+            output::number(rt, 0);
+        }
+        18 => changed(rt, lent::apply_delta_over(*book, delta(line)), book),
         _ => output::put(rt, b"?"),
     }
-    book
 }

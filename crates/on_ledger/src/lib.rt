@@ -1,4 +1,4 @@
-// The operations on the ledger and the prices.
+// The operations on the ledger and the prices. Their numbers are those of the lists that are replayed.
 #![tactic(auto)]
 
 use amount::Amount;
@@ -6,16 +6,16 @@ use fields::{amount, number, side, small, start};
 use holding::Fill;
 use position::{Booked, PositionLedger};
 use told::Told;
-use types::{Outcome, SYMBOLS};
+use types::SYMBOLS;
 
-fn changed(rt: &impl Print, b: Booked) -> PositionLedger {
-    let outcome = b.outcome;
-    output::told(rt, Told::of_outcome(outcome));
-    b.ledger
+// What became of a change; the ledger that it gave back takes the place of the one before.
+fn changed(rt: &impl Print, change: Booked, ledger: &mut PositionLedger) {
+    output::told(rt, Told::of(change.outcome));
+    *ledger = change.ledger;
 }
 
 // Quantity, average and realized profit of a symbol.
-fn position(rt: &impl Print, ledger: PositionLedger, symbol: u32) {
+fn position(rt: &impl Print, ledger: &PositionLedger, symbol: u32) {
     let i = symbol as usize;
     if i < SYMBOLS {
         output::amount(
@@ -24,7 +24,7 @@ fn position(rt: &impl Print, ledger: PositionLedger, symbol: u32) {
                 value: ledger.quantities[i],
             },
         );
-        output::value(rt, ledger.averages[i] as u64);
+        output::value(rt, u64::from(ledger.averages[i]));
         output::amount(
             rt,
             Amount {
@@ -45,16 +45,13 @@ fn fill(line: &[u8]) -> Fill {
 }
 
 // A fill that is taken shows the position that it makes, and the cash.
-fn filled(rt: &impl Print, ledger: PositionLedger, line: &[u8]) -> PositionLedger {
+fn filled(rt: &impl Print, ledger: &mut PositionLedger, line: &[u8]) {
     let booked = ledger.apply_fill(fill(line));
-    let outcome = booked.outcome;
-    let next = changed(rt, booked);
-    if let Outcome::Done = outcome {
-        let cash = next.cash;
-        position(rt, next, small(line, 1));
-        output::amount(rt, cash);
+    changed(rt, booked, ledger);
+    if let Ok(()) = booked.outcome {
+        position(rt, ledger, small(line, 1));
+        output::amount(rt, ledger.cash);
     }
-    next
 }
 
 // The fill whose fields begin behind so many others.
@@ -63,9 +60,9 @@ fn fill_after(line: &[u8], index: usize) -> Fill {
 }
 
 // Four fills in one call, over a lent list: how many were taken, and the cash.
-fn book_four(rt: &impl Print, ledger: PositionLedger, line: &[u8]) -> PositionLedger {
+fn book_four(rt: &impl Print, ledger: &mut PositionLedger, line: &[u8]) {
     let day = day::apply_four(
-        ledger,
+        *ledger,
         [
             fill(line),
             fill_after(line, 6),
@@ -73,83 +70,69 @@ fn book_four(rt: &impl Print, ledger: PositionLedger, line: &[u8]) -> PositionLe
             fill_after(line, 18),
         ],
     );
-    let outcome = day.outcome;
-    let next = day.ledger;
-    let cash = next.cash;
-    output::told(rt, Told::of_outcome(outcome));
+    *ledger = day.ledger;
+    output::told(rt, Told::of(day.outcome));
     output::value(rt, day.taken);
-    output::amount(rt, cash);
-    next
+    output::amount(rt, ledger.cash);
 }
 
-fn worth(rt: &impl Print, ledger: PositionLedger, prices: &[u32], line: &[u8]) {
-    output::told(
-        rt,
-        match number(line, 1) {
-            0 => Told::of_amount(valuation::unrealized_pnl_total(ledger, prices)),
-            1 => Told::of_amount(valuation::net_liquidation_value(ledger, prices)),
-            2 => Told::of_amount(valuation::net_market_exposure(ledger, prices)),
-            _ => Told::of_flag(valuation::delta_neutral_check(ledger, prices)),
-        },
-    );
+fn worth(ledger: &PositionLedger, prices: &[u32], line: &[u8]) -> Told {
+    match number(line, 1) {
+        0 => Told::of(valuation::unrealized_pnl_total(*ledger, prices)),
+        1 => Told::of(valuation::net_liquidation_value(*ledger, prices)),
+        2 => Told::of(valuation::net_market_exposure(*ledger, prices)),
+        _ => Told::of(valuation::delta_neutral_check(*ledger, prices)),
+    }
 }
 
-// The record with another position of a symbol, which may be no ledger.
-fn with_position(rt: &impl Print, mut ledger: PositionLedger, line: &[u8]) -> PositionLedger {
+// What one position makes at a price.
+fn unrealized(ledger: &PositionLedger, line: &[u8]) -> Told {
+    Told::of(valuation::checked_unrealized_pnl(*ledger, small(line, 1), small(line, 2)))
+}
+
+// Another position of a symbol, with which the record may be no ledger.
+fn set_position(rt: &impl Print, ledger: &mut PositionLedger, line: &[u8]) {
     let i = small(line, 1) as usize;
     if i < SYMBOLS {
-        let lots = amount(line, 2, 3).value;
-        let profit = amount(line, 5, 6).value;
-        ledger.quantities[i] = lots;
+        ledger.quantities[i] = amount(line, 2, 3).value;
         ledger.averages[i] = small(line, 4);
-        ledger.realized[i] = profit;
+        ledger.realized[i] = amount(line, 5, 6).value;
         output::number(rt, 0);
     } else {
         output::put(rt, b"?");
     }
-    ledger
 }
 
 // Cash, commission paid, and the position of a symbol, as they stand in the record.
-fn shown(rt: &impl Print, ledger: PositionLedger, symbol: u32) {
-    let cash = ledger.cash;
-    let commission = ledger.commission;
+fn shown(rt: &impl Print, ledger: &PositionLedger, symbol: u32) {
     output::number(rt, 0);
-    output::amount(rt, cash);
-    output::amount(rt, commission);
+    output::amount(rt, ledger.cash);
+    output::amount(rt, ledger.commission);
     position(rt, ledger, symbol);
 }
 
 pub fn step(
     rt: &impl Print,
-    ledger: PositionLedger,
-    prices: [u32; 32],
+    ledger: &mut PositionLedger,
+    prices: &[u32; 32],
     kind: u64,
     line: &[u8],
-) -> PositionLedger {
+) {
     match kind {
-        6 => return changed(rt, PositionLedger::new(amount(line, 1, 2))),
-        7 => return filled(rt, ledger, line),
-        8 => return changed(rt, ledger.deposit(amount(line, 1, 2))),
-        9 => output::told(
-            rt,
-            Told::of_amount(valuation::checked_unrealized_pnl(
-                ledger,
-                small(line, 1),
-                small(line, 2),
-            )),
-        ),
-        11 => worth(rt, ledger, &prices, line),
-        19 => return with_position(rt, ledger, line),
+        6 => changed(rt, PositionLedger::new(amount(line, 1, 2)), ledger),
+        7 => filled(rt, ledger, line),
+        8 => changed(rt, ledger.deposit(amount(line, 1, 2)), ledger),
+        9 => output::told(rt, unrealized(ledger, line)),
+        11 => output::told(rt, worth(ledger, prices, line)),
+        19 => set_position(rt, ledger, line),
         20 => shown(rt, ledger, small(line, 1)),
-        28 => return book_four(rt, ledger, line),
+        28 => book_four(rt, ledger, line),
         _ => output::put(rt, b"?"),
     }
-    ledger
 }
 
-// The prices with another one of a symbol.
-pub fn price(rt: &impl Print, mut prices: [u32; 32], line: &[u8]) -> [u32; 32] {
+// Another price of a symbol.
+pub fn price(rt: &impl Print, prices: &mut [u32; 32], line: &[u8]) {
     let symbol = small(line, 1) as usize;
     if symbol < SYMBOLS {
         prices[symbol] = small(line, 2);
@@ -157,5 +140,4 @@ pub fn price(rt: &impl Print, mut prices: [u32; 32], line: &[u8]) -> [u32; 32] {
     } else {
         output::put(rt, b"?");
     }
-    prices
 }

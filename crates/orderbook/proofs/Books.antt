@@ -15,11 +15,14 @@ use Rattle.levels.proofs.Tables.{Sized, Formed, formed, levels-prices}
 use Rattle.deltas.specs.declared.Counts.{Counts}
 use Rattle.deltas.specs.Inner.Deciding.{count_of}
 use Rattle.sides.specs.Best.{best_of, is_apart}
-use Rattle.sides.specs.Inner.Limits.{SideRows, BestFits}
+use Rattle.levels.specs.Lent.{levels_in}
+use Rattle.levels.specs.declared.lent.SideRows.{SideRows}
+use Rattle.sides.specs.Inner.Limits.{OfSide, BestFits}
 use Rattle.sides.proofs.Bests.{best-fits}
 use Rattle.orderbook.specs.declared.OrderBook.{OrderBook}
+use Rattle.orderbook.specs.declared.lent.BookRows.{BookRows}
 use Rattle.orderbook.specs.Book.{of_side, sides_fit, is_book, side_of, levels_of, bids_of, asks_of}
-use Rattle.orderbook.specs.Lent.{book_at}
+use Rattle.orderbook.specs.Lent.{book_at, book_in}
 use Rattle.orderbook.specs.Inner.Long.{Long}
 
 -- what `is_book` says
@@ -53,28 +56,23 @@ module _ {b : OrderBook} (t : Tested b) where
   sized Bid = record { ps = t.long.bid-prices; qs = t.long.bid_quantities }
   sized Ask = record { ps = t.long.ask-prices; qs = t.long.ask_quantities }
 
-  -- the rows of a side, as the sides and the deltas ask for them
-  pub side_rows : (s : Side) → SideRows (side_of s b).prices (side_of s b).quantities (side_of s b).count
-  side_rows s = let f = t.book.side s in record { long_prices = (sized s).ps; long_quantities = (sized s).qs; few = f.few; limits = f.limits }
-
   pub row_order : (s : Side) → in_order s (take (side_of s b).count (side_of s b).prices) ≡ true
   row_order s = rw (levels-prices (side_of s b) (sized s) (t.book.side s).few) at (t.book.side s).order
 
-  -- the same, as the best level is asked for
-  pub lent_rows : (s : Side) → (length (side_of s b).prices ≡ 128) × (length (side_of s b).quantities ≡ 128) × ((side_of s b).count ≤ 128)
-  lent_rows s = ((sized s).ps, (sized s).qs, (t.book.side s).few)
+-- what code knows behind `if !book.is_book() { return .. }`
+pub behind : (r : BookRows) {t : Bool} → t ≡ is_book (book_in r) → not t ≡ false → Book (book_in r)
+behind r e h = a_book (book_in r) (passed e h)
 
-  -- and so are the same rows, picked by a side
-  module _ (s : Side) {p q : List ℕ} {n : ℕ} (e : rows p q n ≡ side_of s b) where
-    pub picked_rows : SideRows p q n
-    picked_rows = subst (λ (t : Levels). SideRows t.prices t.quantities t.count) (sym e) (side_rows s)
+-- rows that are lent have 128 places
+pub long_rows : (r : BookRows) → Long (book_in r)
+long_rows r = record { bid-prices = r.bids.long_prices; bid_quantities = r.bids.long_quantities; ask-prices = r.asks.long_prices; ask_quantities = r.asks.long_quantities }
 
-    pub picked_order : in_order s (take n p) ≡ true
-    picked_order = subst (λ (t : Levels). in_order s (take t.count t.prices) ≡ true) (sym e) (row_order s)
+pub lent_book_tested : (r : BookRows) {t : Bool} → t ≡ is_book (book_in r) → not t ≡ false → Tested (book_in r)
+lent_book_tested r e h = record { book = behind r e h; long = long_rows r }
 
--- the rows and the count that a side picks of four rows are that side of the book that they make
-pub picked :
-    (s : Side) (bp bq ap aq : List ℕ) (c : Counts) {p q : List ℕ} {n : ℕ} → p ≡ of_side s bp ap → q ≡ of_side s bq aq → n ≡ count_of s c →
-    rows p q n ≡ side_of s (book_at bp bq ap aq c)
-picked Bid bp bq ap aq c e f g = rw (e, f, g)
-picked Ask bp bq ap aq c e f g = rw (e, f, g)
+-- a side that is lent of a book is as a book's side is
+pub lent_side : {b : OrderBook} → Book b → (s : Side) (r : SideRows) → levels_in r ≡ side_of s b → OfSide s r
+lent_side k s r e =
+    let f = subst (λ (t : Levels). Formed s t) (sym e) (k.side s) in
+    let w : Sized (levels_in r) = record { ps = r.long_prices; qs = r.long_quantities } in
+    record { known = record { few = f.few; limits = f.limits }; order = rw (levels-prices (levels_in r) w f.few) at f.order }

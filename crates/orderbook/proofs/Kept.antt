@@ -13,7 +13,7 @@ use Rattle.types.specs.Replies.{done}
 use Rattle.types.specs.declared.Side.{Side}
 use Rattle.types.specs.declared.Side.TheVariants.{Bid, Ask}
 use Rattle.types.specs.declared.PriceLevel.{PriceLevel}
-use Rattle.types.proofs.Once.{never, one_outcome}
+use Rattle.types.proofs.Once.{never, one_answer}
 use Rattle.levels.specs.Order.{in_order}
 use Rattle.levels.specs.Table.{level, prices_of, table}
 use Rattle.levels.specs.Formed.{every, in_limits, well_formed}
@@ -131,5 +131,5 @@ side_keeps s b =
 pub one_change : (c : Change) (x y : Applied) → change_of x ≡ c → change_of y ≡ c → x ≡ y
 one_change c x y e f =
     let book : x.book ≡ y.book = ap (λ (u : Change). u.book) (e ∙ sym f) in
-    let outcome : x.outcome ≡ y.outcome = one_outcome c.reply x.outcome y.outcome (ap (λ (u : Change). u.reply) e) (ap (λ (u : Change). u.reply) f) in
+    let outcome : x.outcome ≡ y.outcome = one_answer c.reply x.outcome y.outcome (ap (λ (u : Change). u.reply) e) (ap (λ (u : Change). u.reply) f) in
     λ i. record { book = book i; outcome = outcome i }

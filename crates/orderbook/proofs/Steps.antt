@@ -1,5 +1,6 @@
 -- A step carried out on its side's rows is the change that `applied` defines: the edit fits the rows, and the tables, the sequence and the reply that
 -- it leaves are those of `tried`.
+use Rattle.std.specs.Prelude.{Result, Err}
 use Prim.Native.Nat.{ℕ, ◌+◌, ◌≤◌, ◌<◌}
 use native.Mathlib.Omega.{arith}
 use mathlib.Core.Path.{◌≡◌, refl, sym, ap, ◌∙◌}
@@ -10,19 +11,17 @@ use lib.ListN.{length, take, get_or}
 use borrow.Author.Tests.{leb-true, leb-false, le-leb, lt-leb}
 use Rattle.types.specs.Limits.{is_price, is_quantity, max_levels, last_sequence}
 use Rattle.types.specs.Replies.{done, refuse}
-use Rattle.types.specs.Answers.{reply_of_outcome}
+use Rattle.types.specs.Answers.{reply_of}
 use Rattle.types.specs.declared.Side.{Side}
 use Rattle.types.specs.declared.Side.TheVariants.{Bid, Ask}
 use Rattle.types.specs.declared.PriceLevel.{PriceLevel}
-use Rattle.types.specs.declared.Outcome.TheVariants as O
 use Rattle.types.specs.declared.Refusal.{Refusal}
 use Rattle.types.specs.declared.Refusal.TheVariants as R
 use Rattle.levels.specs.Order.{in_order}
 use Rattle.levels.specs.Table.{level, table}
 use Rattle.levels.specs.Change.{set_level, remove_level}
 use Rattle.levels.specs.declared.Levels.{Levels}
-use Rattle.changes.specs.declared.Step.{Step}
-use Rattle.changes.specs.declared.Step.TheVariants.{Refuse}
+use Rattle.changes.specs.declared.Edit.{Edit}
 use Rattle.changes.specs.Inner.Edits.{edited, EditFits, edit_of}
 use Rattle.types.proofs.Booleans.{by}
 use Rattle.levels.proofs.Tables.{Sized, Formed, table-back, levels-prices, levels_few, first_row}
@@ -64,19 +63,19 @@ with_side Bid t n b = record { bids = t; asks = b.asks; sequence = n }
 with_side Ask t n b = record { bids = b.bids; asks = t; sequence = n }
 
 -- a step carried out
-abbrev pub carried : Side → Step → OrderBook → BookDelta → Change
+abbrev pub carried : Side → Result Edit Refusal → OrderBook → BookDelta → Change
 carried s st b d =
     record {
       book = with_side s (edited (edit_of st) (level d.price d.quantity) (side_of s b)) (sequence_after st b.sequence d.sequence) b;
-      reply = reply_of_outcome (outcome_of st);
+      reply = reply_of (outcome_of st);
     }
 
 -- the step of a delta to a side of a book
-abbrev pub step_on : Side → OrderBook → BookDelta → Step
+abbrev pub step_on : Side → OrderBook → BookDelta → Result Edit Refusal
 step_on s b d = step_of s (take (side_of s b).count (side_of s b).prices) (side_of s b).count (get_or (side_of (opposite s) b).prices 0 0) b.sequence d
 
 -- a refusal leaves everything
-refusal-carried : (s : Side) (r : Refusal) (b : OrderBook) (d : BookDelta) → carried s (Refuse r) b d ≡ record { book = b; reply = refuse r }
+refusal-carried : (s : Side) (r : Refusal) (b : OrderBook) (d : BookDelta) → carried s (Err r) b d ≡ record { book = b; reply = refuse r }
 refusal-carried Bid r b d = refl
 refusal-carried Ask r b d = refl
 
@@ -133,7 +132,7 @@ module _ (s : Side) (b : OrderBook) (p : Sides s b) (w : Rows s b) where
     abbrev l : PriceLevel
     l = level d.price d.quantity
 
-    abbrev act : DeltaAction → Step
+    abbrev act : DeltaAction → Result Edit Refusal
     act a = action_step a s (take (side_of s b).count (side_of s b).prices) (side_of s b).count (best_price other) d.price
 
     act-fits : (a : DeltaAction) → EditFits (edit_of (act a)) (side_of s b).count
@@ -194,7 +193,7 @@ module _ (s : Side) (b : OrderBook) (p : Sides s b) (w : Rows s b) where
 
 -- a delta that its own numbers refuse leaves a book as it was
 pub refused-kept :
-    {b : OrderBook} → Tested b → (d : BookDelta) (why : Refusal) → Admission (O.Refused why) b.sequence d → record { book = b; reply = refuse why } ≡ tried b d
+    {b : OrderBook} → Tested b → (d : BookDelta) (why : Refusal) → Admission (Err why) b.sequence d → record { book = b; reply = refuse why } ≡ tried b d
 refused-kept {b} t d why told =
     let s = d.side in
-    sym (refusal-carried s why b d) ∙ ap (λ (st : Step). carried s st b d) (sym (told s _ _ _)) ∙ step_done s b (sides s b t.book.is) (both-rows s t) d refl
+    sym (refusal-carried s why b d) ∙ ap (λ (st : Result Edit Refusal). carried s st b d) (sym (told s _ _ _)) ∙ step_done s b (sides s b t.book.is) (both-rows s t) d refl

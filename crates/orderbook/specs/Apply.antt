@@ -2,7 +2,7 @@
 use Rattle.std.specs.Prelude.{ℕ, ◌+◌, cond, ◌&&◌, List, [], ◌∷◌, eqb, leb, ltb, ℤ, pos, length}
 use Rattle.types.specs.Limits.{max_levels, last_sequence}
 use Rattle.types.specs.Replies.{Reply, done, refused}
-use Rattle.types.specs.Answers.{reply_of_outcome}
+use Rattle.types.specs.Answers.{reply_of}
 use Rattle.types.specs.declared.Side.{Side}
 use Rattle.types.specs.declared.Side.TheVariants.{Bid, Ask}
 use Rattle.types.specs.declared.PriceLevel.{PriceLevel}
@@ -24,7 +24,7 @@ pub record Change : Type 0 where
 
 -- what a call gave back
 abbrev pub change_of : Applied → Change
-change_of r = record { book = r.book; reply = reply_of_outcome r.outcome }
+change_of r = record { book = r.book; reply = reply_of r.outcome }
 
 -- a refusal gives back the book it was handed
 abbrev pub kept : OrderBook → ℕ → List ℤ → Change

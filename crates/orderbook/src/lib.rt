@@ -4,13 +4,15 @@
 
 ghost use Rattle.std.specs.Prelude.{◌≡◌};
 ghost use Rattle.orderbook.specs.Book.{is_book, side_of, empty_book};
+ghost use Rattle.orderbook.specs.Lent.{book_in};
 
+pub mod lent; // lent.rt: a book lent to be read
 pub mod rows; // rows.rt: a book lent as its rows: tested, and changed in place
 pub mod change; // change.rt: apply_delta, clear, remove_all
 
-use deltas::Counts;
+use lent::BookRows;
 use levels::Levels;
-use types::{Outcome, Side};
+use types::{Refusal, Side};
 
 #[repr(C)]
 #[derive(Clone, Copy)]
@@ -24,7 +26,7 @@ pub struct OrderBook {
 #[derive(Clone, Copy)]
 pub struct Applied {
     pub book: OrderBook,
-    pub outcome: Outcome,
+    pub outcome: Result<(), Refusal>,
 }
 
 impl OrderBook {
@@ -39,20 +41,21 @@ impl OrderBook {
         }
     }
 
+    // The book, lent to be read.
+    pub fn rows(&self) -> BookRows<'_>
+        ensures { book_in result ≡ self.now }
+    {
+        BookRows {
+            bids: self.bids.rows(),
+            asks: self.asks.rows(),
+            sequence: self.sequence,
+        }
+    }
+
     pub fn is_book(self) -> bool
         ensures { result ≡ is_book self }
     {
-        rows::is_book(
-            &self.bids.prices,
-            &self.bids.quantities,
-            &self.asks.prices,
-            &self.asks.quantities,
-            Counts {
-                bids: self.bids.count,
-                asks: self.asks.count,
-                sequence: self.sequence,
-            },
-        )
+        self.rows().is_book()
     }
 
     // One side's table as it stands in the record: a plain accessor, which tests nothing.
@@ -60,14 +63,8 @@ impl OrderBook {
         ensures { result ≡ side_of side self }
     {
         match side {
-            Side::Bid => {
-                let levels = self.bids;
-                levels
-            }
-            Side::Ask => {
-                let levels = self.asks;
-                levels
-            }
+            Side::Bid => self.bids,
+            Side::Ask => self.asks,
         }
     }
 }

@@ -3,9 +3,10 @@
 #![tactic(auto)]
 
 use amount::Amount;
-use questions::Answer;
+use questions::Value;
 use quotient::Quotient;
 use told::{Told, Whole};
+use types::Refusal;
 
 // What cannot be written is left out.
 pub fn put(rt: &impl Print, text: &[u8]) {
@@ -21,89 +22,69 @@ pub fn value(rt: &impl Print, n: u64) {
     number(rt, n);
 }
 
-fn signed(rt: &impl Print, negative: bool, size: u64) {
-    if negative {
-        put(rt, b" -");
-    } else {
-        put(rt, b" ");
-    }
-    number(rt, size);
+fn signed(rt: &impl Print, whole: Whole) {
+    let sign = if whole.negative { " -" } else { " " };
+    let _ = rt.print(format_args!("{sign}{}", whole.size));
 }
 
 pub fn amount(rt: &impl Print, a: Amount) {
-    signed(rt, a.is_negative(), a.size());
-}
-
-// A value, if the answer carries it.
-fn carried(rt: &impl Print, is: bool, w: Whole) {
-    if is {
-        signed(rt, w.negative, w.size);
-    }
+    signed(rt, Whole::from(a));
 }
 
 pub fn told(rt: &impl Print, t: Told) {
-    let first = t.first;
-    let second = t.second;
-    let third = t.third;
-    let fourth = t.fourth;
-    let count = t.count;
     number(rt, t.number);
-    carried(rt, count > 0, first);
-    carried(rt, count > 1, second);
-    carried(rt, count > 2, third);
-    carried(rt, count > 3, fourth);
-}
-
-// The last six digits of a number.
-fn six_digits(rt: &impl Print, n: u64) {
-    let mut scale: u64 = 100_000;
-    while scale > 0 {
-        number(rt, n / scale % 10);
-        scale /= 10;
+    let values = [t.first, t.second, t.third, t.fourth];
+    for value in values.iter().take(t.count as usize) {
+        signed(rt, *value);
     }
 }
 
-// A number of 6 places; one that shows as zero has no sign.
-fn places(rt: &impl Print, negative: bool, units: u64, millionths: u64) {
-    signed(rt, negative && (units > 0 || millionths > 0), units);
-    put(rt, b".");
-    six_digits(rt, millionths);
+// A quotient's whole part and the millionths behind it; none where its denominator is 0, or too large for them.
+fn places(size: u64, denominator: u64) -> Option<(u64, u64)> {
+    let rest = size.checked_rem(denominator)?;
+    let millionths = rest.checked_mul(1_000_000)?.checked_div(denominator)?;
+    Some((size.checked_div(denominator)?, millionths))
 }
 
-// A quotient cut to 6 places. No quotient of a book has a denominator that is too large for them.
+// A quotient cut to 6 places; one that shows as zero has no sign. No quotient of a book has a denominator that is too large for them.
 fn cut(rt: &impl Print, q: Quotient) {
     let numerator = q.numerator;
-    let size = numerator.size();
-    let d = q.denominator;
-    if d > 0 {
-        let rest = size % d;
-        if rest <= u64::MAX / 1_000_000 {
-            places(rt, numerator.is_negative(), size / d, rest * 1_000_000 / d);
-            return;
-        }
+    let Some((units, millionths)) = places(numerator.size(), q.denominator) else {
+        put(rt, b" ?");
+        return;
+    };
+    signed(
+        rt,
+        Whole {
+            size: units,
+            negative: numerator.is_negative() && (units > 0 || millionths > 0),
+        },
+    );
+    let _ = rt.print(format_args!(".{millionths:06}"));
+}
+
+// The quotient that an answer is, its number told; any other answer is told whole.
+fn ratio(rt: &impl Print, answer: Result<Value, Refusal>) -> Option<Quotient> {
+    if let Ok(Value::Ratio(q)) = answer {
+        number(rt, 0);
+        return Some(q);
     }
-    put(rt, b" ?");
+    told(rt, Told::of(answer));
+    None
 }
 
 // An answer whose quotient is cut to 6 places.
-pub fn answer_cut(rt: &impl Print, a: Answer) {
-    let Answer::Ratio(q) = a else {
-        told(rt, a.told());
-        return;
-    };
-    number(rt, 0);
-    cut(rt, q);
+pub fn answer_cut(rt: &impl Print, answer: Result<Value, Refusal>) {
+    if let Some(q) = ratio(rt, answer) {
+        cut(rt, q);
+    }
 }
 
 // An answer whose quotient is shown as what over what.
-pub fn answer_exact(rt: &impl Print, a: Answer) {
-    let Answer::Ratio(q) = a else {
-        told(rt, a.told());
-        return;
-    };
-    let numerator = q.numerator;
-    number(rt, 0);
-    amount(rt, numerator);
-    put(rt, b" over");
-    value(rt, q.denominator);
+pub fn answer_exact(rt: &impl Print, answer: Result<Value, Refusal>) {
+    if let Some(q) = ratio(rt, answer) {
+        amount(rt, q.numerator);
+        put(rt, b" over");
+        value(rt, q.denominator);
+    }
 }

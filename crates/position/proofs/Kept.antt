@@ -19,7 +19,7 @@ use Rattle.position.specs.declared.PositionLedger.{PositionLedger}
 use Rattle.holding.proofs.Stays.{position-stays}
 use Rattle.holding.proofs.Holdings.{fill_in}
 use Rattle.holding.proofs.Places.{RowsIn, rows_of, put-fits}
-use Rattle.position.proofs.Ledgers.{ledger_in}
+use Rattle.position.proofs.Ledgers.{a_ledger}
 
 -- the ledger's parts make it one
 ledger_of : (l : PositionLedger) → is_money l.cash.value ≡ true → is_money l.commission.value ≡ true → RowsIn l.quantities l.averages l.realized → is_ledger l ≡ true
@@ -42,7 +42,7 @@ filled_ledger l f hl hf hb =
     let a = (and-eq-true_iff (is_money (cash_after l.cash.value f)) _).0 hb in
     let b = (and-eq-true_iff (is_money (l.commission.value +ℤ f.commission.value)) _).0 a.1 in
     let c = (and-eq-true_iff (sized_within max_position p.quantity.value) _).0 b.1 in
-    let w = (ledger_in l hl).rows in
+    let w = (a_ledger l hl).rows in
     let here = (fill_in f hf).symbol_in in
     ledger_of (filled l f) a.0 b.0
     (put-fits l.quantities l.averages l.realized w f.symbol here p (position-stays (position_at l f.symbol) f (w.each f.symbol here) hf c.0 c.1))
@@ -78,7 +78,7 @@ deposit_keeps l d =
     keeps_provided l (is_ledger l) 1 [] _ (λ h.
     keeps_provided l (sized_within max_deposit d) 2 [] _ (λ _.
     keeps_provided l (is_money (l.cash.value +ℤ d)) 9 [] (changed m) (λ hc.
-    keeps_done l m (ledger_of m hc (ledger_in l h).paid (ledger_in l h).rows))))
+    keeps_done l m (ledger_of m hc (a_ledger l h).paid (a_ledger l h).rows))))
 
 pub new_is_ledger : NewIsLedger
 unfolding created is_ledger are_positions is_position all_to
@@ -92,7 +92,7 @@ pub averages_fit : AveragesFit
 unfolding is_position
 averages_fit l h i m =
     let p = position_at l i in
-    let a = (and-eq-true_iff (sized_within max_position p.quantity.value) _).0 ((ledger_in l h).rows.each i m) in
+    let a = (and-eq-true_iff (sized_within max_position p.quantity.value) _).0 ((a_ledger l h).rows.each i m) in
     by (eqb (nat_abs p.quantity.value) 0) p.average ((and-eq-true_iff (is_money p.realized.value) _).0 a.1).1
   where
     by : (t : Bool) (v : ℕ) → cond t (eqb v 0) (is_price v) ≡ true → is_price v ≡ not t

@@ -19,9 +19,9 @@ pub record LedgerIn (l : PositionLedger) : Type 0 where
   pub positions : are_positions l.quantities l.averages l.realized ≡ true
   pub rows : RowsIn l.quantities l.averages l.realized
 
-pub ledger_in : (l : PositionLedger) → is_ledger l ≡ true → LedgerIn l
+pub a_ledger : (l : PositionLedger) → is_ledger l ≡ true → LedgerIn l
 unfolding is_ledger
-ledger_in l h =
+a_ledger l h =
     let a = (and-eq-true_iff (is_money l.cash.value) _).0 h in
     let b = (and-eq-true_iff (is_money l.commission.value) _).0 a.1 in
     record {
@@ -33,4 +33,4 @@ ledger_in l h =
     }
 
 pub held_in_lem : (l : PositionLedger) → is_ledger l ≡ true → (i : ℕ) → i < 32 → PositionIn (position_at l i)
-held_in_lem l h = rows.held_in_lem l.quantities l.averages l.realized (ledger_in l h).positions
+held_in_lem l h = rows.held_in_lem l.quantities l.averages l.realized (a_ledger l h).positions

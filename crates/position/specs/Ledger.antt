@@ -4,7 +4,7 @@ use Rattle.std.specs.Int.Signed.{lt_z}
 use Rattle.amount.specs.Whole.{amount}
 use Rattle.types.specs.Limits.{sized_within, symbols, max_deposit, max_position, max_money}
 use Rattle.types.specs.Replies.{Reply, done, refused}
-use Rattle.types.specs.Answers.{reply_of_outcome}
+use Rattle.types.specs.Answers.{reply_of}
 use Rattle.types.specs.declared.Side.{Side}
 use Rattle.types.specs.declared.Side.TheVariants.{Bid, Ask}
 use Rattle.holding.specs.Holding.{is_fill, charge, position_after}
@@ -33,7 +33,7 @@ pub record Change : Type 0 where
 
 -- what a call gave back
 abbrev pub change_of : Booked → Change
-change_of b = record { ledger = b.ledger; reply = reply_of_outcome b.outcome }
+change_of b = record { ledger = b.ledger; reply = reply_of b.outcome }
 
 -- done, with this ledger
 abbrev pub changed : PositionLedger → Change

@@ -1,45 +1,34 @@
-// The ledger by value: its rows are changed in place, and put together again. Each call takes any record: it tests it first, and gives the
-// same record back with a refusal.
+// The ledger as a record: new, tested, and changed, in place and by value. Its rows are lent one by one, and the totals beside them are put back.
+// Each call takes any record: it tests it first, and leaves the same record with a refusal.
 ghost use Rattle.std.specs.Prelude.{◌≡◌};
-ghost use Rattle.types.specs.Answers.{reply_of_outcome};
+ghost use Rattle.types.specs.Answers.{reply_of};
 ghost use Rattle.position.specs.Ledger.{is_ledger, change_of, fresh, created, booked, deposited};
-ghost use Rattle.position.specs.Lent.{ledger_at, totals_in};
+ghost use Rattle.position.specs.Lent.{ledger_in, totals_in, with_totals};
 
-use crate::{Booked, PositionLedger, RowsBooked, Totals, rows};
+use crate::lent::LedgerRows;
+use crate::{Booked, PositionLedger, Totals, rows};
 use amount::Amount;
 use holding::Fill;
-use types::{MAX_MONEY, Outcome, Refusal};
-
-// The ledger of three rows after a change.
-fn given(
-    quantities: [i64; 32],
-    averages: [u32; 32],
-    realized: [i64; 32],
-    done: RowsBooked,
-) -> Booked
-    ensures { change_of result ≡ record { ledger = ledger_at quantities averages realized done.totals; reply = reply_of_outcome done.outcome } }
-{
-    let outcome = done.outcome;
-    let cash = done.totals.cash;
-    let commission = done.totals.commission;
-    let ledger = PositionLedger {
-        cash,
-        commission,
-        quantities,
-        averages,
-        realized,
-    };
-    Booked { ledger, outcome }
-}
+use holding::lent::PositionRows;
+use types::{MAX_MONEY, Refusal};
 
 impl PositionLedger {
     // What stands beside the rows.
-    pub fn totals(self) -> Totals
-        ensures { result ≡ totals_in self }
+    pub fn totals(&self) -> Totals
+        ensures { result ≡ totals_in self.now }
     {
-        let cash = self.cash;
-        let commission = self.commission;
-        Totals { cash, commission }
+        Totals {
+            cash: self.cash,
+            commission: self.commission,
+        }
+    }
+
+    // Puts other totals beside the rows.
+    fn total(&mut self, totals: Totals)
+        ensures { self.new ≡ with_totals totals self.old }
+    {
+        self.cash = totals.cash;
+        self.commission = totals.commission;
     }
 
     fn fresh(cash: Amount) -> PositionLedger
@@ -55,18 +44,33 @@ impl PositionLedger {
     }
 
     // A ledger with this cash and nothing else; cash outside its limit gives 2, beside the ledger of cash 0.
+    #[tactic(auto, unfolding(crate::specs::Ledger::created))]
     pub fn new(cash: Amount) -> Booked
         ensures { change_of result ≡ created cash.value }
     {
-        if cash.within(MAX_MONEY) {
+        if !cash.within(MAX_MONEY) {
             return Booked {
-                ledger: PositionLedger::fresh(cash),
-                outcome: Outcome::Done,
+                ledger: PositionLedger::fresh(Amount::of(0)),
+                outcome: Err(Refusal::OutOfLimits),
             };
         }
         Booked {
-            ledger: PositionLedger::fresh(Amount::of(0)),
-            outcome: Outcome::Refused(Refusal::OutOfLimits),
+            ledger: PositionLedger::fresh(cash),
+            outcome: Ok(()),
+        }
+    }
+
+    // The ledger, lent to be read.
+    pub fn rows(&self) -> LedgerRows<'_>
+        ensures { ledger_in result ≡ self.now }
+    {
+        LedgerRows {
+            positions: PositionRows {
+                quantities: &self.quantities,
+                averages: &self.averages,
+                realized: &self.realized,
+            },
+            totals: self.totals(),
         }
     }
 
@@ -74,31 +78,46 @@ impl PositionLedger {
     pub fn is_ledger(self) -> bool
         ensures { result ≡ is_ledger self }
     {
-        let totals = self.totals();
-        rows::is_ledger(&self.quantities, &self.averages, &self.realized, totals)
+        self.rows().is_ledger()
     }
 
-    // Takes a fill: cash, commission paid, and the symbol's position.
-    pub fn apply_fill(self, fill: Fill) -> Booked
+    // Takes a fill: cash, commission paid, and the symbol's position. A refusal leaves the ledger as it was.
+    pub fn apply(&mut self, fill: Fill) -> Result<(), Refusal>
+        ensures { record { ledger = self.new; reply = reply_of result } ≡ booked self.old fill }
+    {
+        let mut totals = self.totals();
+        let outcome = rows::apply_fill(
+            &mut self.quantities,
+            &mut self.averages,
+            &mut self.realized,
+            &mut totals,
+            fill,
+        );
+        self.total(totals);
+        outcome
+    }
+
+    // The same by value: a refusal gives the ledger back as it was.
+    pub fn apply_fill(mut self, fill: Fill) -> Booked
         ensures { change_of result ≡ booked self fill }
     {
-        let mut quantities = self.quantities;
-        let mut averages = self.averages;
-        let mut realized = self.realized;
-        let totals = self.totals();
-        let done = rows::apply_fill(&mut quantities, &mut averages, &mut realized, totals, fill);
-        given(quantities, averages, realized, done)
+        let outcome = self.apply(fill);
+        Booked {
+            ledger: self,
+            outcome,
+        }
     }
 
     // Pays cash in, or out if the amount is negative.
-    pub fn deposit(self, amount: Amount) -> Booked
+    pub fn deposit(mut self, amount: Amount) -> Booked
         ensures { change_of result ≡ deposited self amount.value }
     {
-        let quantities = self.quantities;
-        let averages = self.averages;
-        let realized = self.realized;
-        let totals = self.totals();
-        let done = rows::deposit(&quantities, &averages, &realized, totals, amount);
-        given(quantities, averages, realized, done)
+        let mut totals = self.totals();
+        let outcome = rows::deposit(self.rows().positions, &mut totals, amount);
+        self.total(totals);
+        Booked {
+            ledger: self,
+            outcome,
+        }
     }
 }

@@ -5,10 +5,11 @@
 
 use amount::Amount;
 pub use holding::{Fill, Position};
-use types::Outcome;
+use types::Refusal;
 
+pub mod lent; // lent.rt: a ledger lent to be read
 pub mod rows; // rows.rt: a ledger lent as its rows: tested, and changed in place
-mod ledger; // ledger.rt: new, is_ledger, apply_fill, deposit
+mod ledger; // ledger.rt: new, is_ledger, apply, apply_fill, deposit
 
 // A place for each symbol in each row: signed lots, their average price (0 when flat), and the profit realized so far.
 #[repr(C)]
@@ -29,16 +30,9 @@ pub struct Totals {
     pub commission: Amount,
 }
 
-// What a change leaves beside the rows.
-#[derive(Clone, Copy)]
-pub struct RowsBooked {
-    pub totals: Totals,
-    pub outcome: Outcome,
-}
-
 // A ledger after a call, and how the call ended: a refusal gives the ledger back as it was.
 #[derive(Clone, Copy)]
 pub struct Booked {
     pub ledger: PositionLedger,
-    pub outcome: Outcome,
+    pub outcome: Result<(), Refusal>,
 }

@@ -1,33 +1,47 @@
 // A ledger lent as its three rows (quantities, averages, realized profits), with its totals beside them: no row is copied, and a fill is booked to
 // the rows where they stand. Each promise is of the ledger that the rows and the totals make (specs/Lent.antt).
 ghost use Rattle.std.specs.Prelude.{◌≡◌, true};
-ghost use Rattle.types.specs.Answers.{reply_of_outcome};
+ghost use Rattle.types.specs.Answers.{reply_of};
 ghost use Rattle.holding.specs.Inner.Sizes.{FillIn};
 ghost use Rattle.position.specs.Ledger.{is_ledger, is_short, is_bearable, settled, booked, deposited};
-ghost use Rattle.position.specs.Lent.{ledger_at, lent_ledger};
+ghost use Rattle.position.specs.Lent.{ledger_at, ledger_of, ledger_in, lent_ledger};
 
-use crate::{RowsBooked, Totals};
+use crate::Totals;
+use crate::lent::LedgerRows;
 use amount::Amount;
+use holding::lent::PositionRows;
 use holding::{Fill, Position};
-use types::{MAX_DEPOSIT, MAX_MONEY, MAX_POSITION, Outcome, Refusal, Side};
+use types::{MAX_DEPOSIT, MAX_MONEY, MAX_POSITION, Refusal, Side};
 
-// Whether every limit holds, and each average is 0 exactly where its quantity is.
-pub fn is_ledger<'a>(
-    quantities: &'a [i64; 32],
-    averages: &'a [u32; 32],
-    realized: &'a [i64; 32],
-    totals: Totals,
-) -> bool
-    ensures { result ≡ is_ledger (lent_ledger quantities averages realized totals) }
-{
-    let cash = totals.cash;
-    let commission = totals.commission;
-    if cash.within(MAX_MONEY) {
-        if commission.within(MAX_MONEY) {
-            return holding::rows::are_positions(quantities, averages, realized);
+impl<'a> LedgerRows<'a> {
+    // The rows of a ledger (quantities, averages, realized profits), and its totals.
+    pub fn of(
+        quantities: &'a [i64; 32],
+        averages: &'a [u32; 32],
+        realized: &'a [i64; 32],
+        totals: Totals,
+    ) -> LedgerRows<'a>
+        ensures { ledger_in result ≡ lent_ledger quantities averages realized totals }
+    {
+        LedgerRows {
+            positions: PositionRows {
+                quantities,
+                averages,
+                realized,
+            },
+            totals,
         }
     }
-    false
+
+    // Whether every limit holds, and each average is 0 exactly where its quantity is.
+    #[tactic(auto, unfolding(crate::specs::Ledger::is_ledger))]
+    pub fn is_ledger(self) -> bool
+        ensures { result ≡ is_ledger (ledger_in self.entry) }
+    {
+        self.totals.cash.within(MAX_MONEY)
+            && self.totals.commission.within(MAX_MONEY)
+            && self.positions.are_positions()
+    }
 }
 
 // Whether a fill may not leave this cash: a Bid not less than zero, an Ask any.
@@ -42,135 +56,111 @@ fn is_short(side: Side, cash: Amount) -> bool
 }
 
 // Whether the totals that a fill moves are within their limits.
-fn is_bearable(cash: Amount, commission: Amount, position: Position) -> bool
-    ensures { result ≡ is_bearable cash.value commission.value position }
+fn is_bearable(totals: Totals, position: Position) -> bool
+    ensures { result ≡ is_bearable totals.cash.value totals.commission.value position }
 {
-    let quantity = position.quantity;
-    let realized = position.realized;
-    if cash.within(MAX_MONEY) {
-        if commission.within(MAX_MONEY) {
-            if quantity.within(MAX_POSITION) {
-                return realized.within(MAX_MONEY);
-            }
-        }
-    }
-    false
+    totals.cash.within(MAX_MONEY)
+        && totals.commission.within(MAX_MONEY)
+        && position.quantity.within(MAX_POSITION)
+        && position.realized.within(MAX_MONEY)
 }
 
 // A fill within its limits, to a ledger: 8, then 9.
+#[tactic(auto, unfolding(crate::specs::Ledger::settled, crate::specs::Ledger::filled))]
 fn settle(
     quantities: &mut [i64; 32],
     averages: &mut [u32; 32],
     realized: &mut [i64; 32],
-    totals: Totals,
+    totals: &mut Totals,
     fill: Fill,
-) -> RowsBooked
-    requires { (is_ledger (ledger_at quantities.old averages.old realized.old totals) ≡ true) × FillIn fill }
-    ensures { record { ledger = ledger_at quantities.new averages.new realized.new result.totals; reply = reply_of_outcome result.outcome } ≡ settled (ledger_at quantities.old averages.old realized.old totals) fill }
+) -> Result<(), Refusal>
+    requires { (is_ledger (ledger_at quantities.old averages.old realized.old totals.old) ≡ true) × FillIn fill }
+    ensures { record { ledger = ledger_at quantities.new averages.new realized.new totals.new; reply = reply_of result } ≡ settled (ledger_at quantities.old averages.old realized.old totals.old) fill }
 {
-    let side = fill.side;
     let have = totals.cash;
     let need = fill.charge();
     let cash = have.sub(need);
-    if is_short(side, cash) {
-        return RowsBooked {
-            totals,
-            outcome: Outcome::Refused(Refusal::InsufficientFunds { need, have }),
-        };
+    if is_short(fill.side, cash) {
+        return Err(Refusal::InsufficientFunds { need, have });
     }
-    let paid = totals.commission;
-    let commission = paid.add(fill.commission);
+    let moved = Totals {
+        cash,
+        commission: totals.commission.add(fill.commission),
+    };
     let symbol = fill.symbol as usize;
-    let position = holding::rows::at(quantities, averages, realized, symbol);
-    let moved = position.after_fill(fill);
-    if is_bearable(cash, commission, moved) {
-        holding::rows::put(quantities, averages, realized, symbol, moved);
-        return RowsBooked {
-            totals: Totals { cash, commission },
-            outcome: Outcome::Done,
-        };
+    let positions = PositionRows {
+        quantities,
+        averages,
+        realized,
+    };
+    let before = positions.at(symbol);
+    let after = before.after_fill(fill);
+    if !is_bearable(moved, after) {
+        return Err(Refusal::PastLimit);
     }
-    RowsBooked {
-        totals,
-        outcome: Outcome::Refused(Refusal::PastLimit),
-    }
+    holding::rows::put(quantities, averages, realized, symbol, after);
+    *totals = moved;
+    Ok(())
 }
 
 // A fill to rows that are known to make a ledger.
+#[tactic(auto, unfolding(crate::specs::Ledger::booked))]
 pub fn apply_to_ledger(
     quantities: &mut [i64; 32],
     averages: &mut [u32; 32],
     realized: &mut [i64; 32],
-    totals: Totals,
+    totals: &mut Totals,
     fill: Fill,
-) -> RowsBooked
-    requires { is_ledger (ledger_at quantities.old averages.old realized.old totals) ≡ true }
-    ensures { record { ledger = ledger_at quantities.new averages.new realized.new result.totals; reply = reply_of_outcome result.outcome } ≡ booked (ledger_at quantities.old averages.old realized.old totals) fill }
+) -> Result<(), Refusal>
+    requires { is_ledger (ledger_at quantities.old averages.old realized.old totals.old) ≡ true }
+    ensures { record { ledger = ledger_at quantities.new averages.new realized.new totals.new; reply = reply_of result } ≡ booked (ledger_at quantities.old averages.old realized.old totals.old) fill }
 {
-    if fill.is_fill() {
-        return settle(quantities, averages, realized, totals, fill);
+    if !fill.is_fill() {
+        return Err(Refusal::OutOfLimits);
     }
-    RowsBooked {
-        totals,
-        outcome: Outcome::Refused(Refusal::OutOfLimits),
-    }
+    settle(quantities, averages, realized, totals, fill)
 }
 
 // Takes a fill: cash, commission paid, and the symbol's position. A refusal leaves the rows and the totals as they were.
+#[tactic(auto, unfolding(crate::specs::Ledger::booked))]
 pub fn apply_fill(
     quantities: &mut [i64; 32],
     averages: &mut [u32; 32],
     realized: &mut [i64; 32],
-    totals: Totals,
+    totals: &mut Totals,
     fill: Fill,
-) -> RowsBooked
-    ensures { record { ledger = ledger_at quantities.new averages.new realized.new result.totals; reply = reply_of_outcome result.outcome } ≡ booked (ledger_at quantities.old averages.old realized.old totals) fill }
+) -> Result<(), Refusal>
+    ensures { record { ledger = ledger_at quantities.new averages.new realized.new totals.new; reply = reply_of result } ≡ booked (ledger_at quantities.old averages.old realized.old totals.old) fill }
 {
-    if is_ledger(quantities, averages, realized, totals) {
-        return apply_to_ledger(quantities, averages, realized, totals, fill);
+    if !LedgerRows::of(quantities, averages, realized, *totals).is_ledger() {
+        return Err(Refusal::NotARecord);
     }
-    RowsBooked {
-        totals,
-        outcome: Outcome::Refused(Refusal::NotARecord),
-    }
+    apply_to_ledger(quantities, averages, realized, totals, fill)
 }
 
 // Pays cash in, or out if the amount is negative. The rows are read alone.
-pub fn deposit<'a>(
-    quantities: &'a [i64; 32],
-    averages: &'a [u32; 32],
-    realized: &'a [i64; 32],
-    totals: Totals,
+#[tactic(auto, unfolding(crate::specs::Ledger::deposited))]
+pub fn deposit(
+    positions: PositionRows<'_>,
+    totals: &mut Totals,
     amount: Amount,
-) -> RowsBooked
-    ensures { record { ledger = lent_ledger quantities averages realized result.totals; reply = reply_of_outcome result.outcome } ≡ deposited (lent_ledger quantities averages realized totals) amount.value }
+) -> Result<(), Refusal>
+    ensures { record { ledger = ledger_of positions.entry totals.new; reply = reply_of result } ≡ deposited (ledger_of positions.entry totals.old) amount.value }
 {
-    if !is_ledger(quantities, averages, realized, totals) {
-        return RowsBooked {
-            totals,
-            outcome: Outcome::Refused(Refusal::NotARecord),
-        };
+    let ledger = LedgerRows {
+        positions,
+        totals: *totals,
+    };
+    if !ledger.is_ledger() {
+        return Err(Refusal::NotARecord);
     }
     if !amount.within(MAX_DEPOSIT) {
-        return RowsBooked {
-            totals,
-            outcome: Outcome::Refused(Refusal::OutOfLimits),
-        };
+        return Err(Refusal::OutOfLimits);
     }
-    let have = totals.cash;
-    let paid = totals.commission;
-    let balance = have.add(amount);
-    if balance.within(MAX_MONEY) {
-        return RowsBooked {
-            totals: Totals {
-                cash: balance,
-                commission: paid,
-            },
-            outcome: Outcome::Done,
-        };
+    let balance = totals.cash.add(amount);
+    if !balance.within(MAX_MONEY) {
+        return Err(Refusal::PastLimit);
     }
-    RowsBooked {
-        totals,
-        outcome: Outcome::Refused(Refusal::PastLimit),
-    }
+    totals.cash = balance;
+    Ok(())
 }

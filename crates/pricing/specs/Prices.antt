@@ -1,5 +1,5 @@
 -- What positions count for at prices. The prices given are 32 numbers, 0 for a symbol without a price.
-use Rattle.std.specs.Prelude.{ℕ, ◌*◌, Bool, true, not, ◌&&◌, cond, List, ltb, leb, eqb, get_or, length, ℤ, pos, nat_abs, ◌-ℤ◌, ◌*ℤ◌}
+use Rattle.std.specs.Prelude.{ℕ, ◌*◌, Option, Some, None, Bool, true, not, ◌&&◌, cond, List, ltb, leb, eqb, get_or, length, ℤ, pos, nat_abs, ◌-ℤ◌, ◌*ℤ◌}
 use Rattle.amount.specs.Sums.{all_to, sum_to, first_to}
 use Rattle.types.specs.Limits.{symbols, max_price}
 use Rattle.holding.specs.declared.Position.{Position}
@@ -39,6 +39,10 @@ is_open_at priced held ps i = is_open priced (held i) (get_or ps i 0)
 -- the smallest symbol with such a position, or 32
 abbrev pub first_open : Bool → (ℕ → Position) → List ℕ → ℕ
 first_open priced held ps = first_to (is_open_at priced held ps) symbols
+
+-- a symbol, where the search found one
+abbrev pub symbol_if : ℕ → Option ℕ
+symbol_if i = cond (ltb i symbols) (Some i) None
 
 -- gross is 0 or 100·|net| < gross, in exact numbers
 abbrev pub is_neutral : ℤ → ℕ → Bool

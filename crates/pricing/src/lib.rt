@@ -2,7 +2,9 @@
 // over its positions.
 #![tactic(auto)]
 
-ghost use Rattle.std.specs.Prelude.{◌≡◌, ◌<◌, ◌≤◌};
+ghost use Rattle.std.specs.Prelude.{◌≡◌, ◌<◌, ◌≤◌, leb};
+ghost use Rattle.std.specs.List.{list_all};
+ghost use Rattle.types.specs.Limits.{max_price};
 ghost use Rattle.amount.specs.Whole.{amount};
 ghost use Rattle.holding.specs.Inner.Sizes.{PositionIn};
 ghost use Rattle.pricing.specs.Prices.{are_prices, measured, is_open, is_neutral};
@@ -21,22 +23,18 @@ pub enum Measure {
     Profit,
 }
 
+// Whether each is a price or 0 for none.
+fn are_within(prices: &[u32]) -> bool
+    ensures { result ≡ list_all (λ x. leb x max_price) prices.now }
+{
+    prices.iter().all(|price| *price <= MAX_PRICE)
+}
+
 // Whether these are 32 numbers, each a price or 0 for none.
 pub fn are_prices(prices: &[u32]) -> bool
     ensures { result ≡ are_prices prices.now }
 {
-    if prices.len() == 32 {
-        let mut i = 0;
-        while i < 32 {
-            if prices[i] <= MAX_PRICE {
-                i += 1;
-            } else {
-                return false;
-            }
-        }
-        return true;
-    }
-    false
+    prices.len() == 32 && are_within(prices)
 }
 
 // What the position counts for at a price: its exposure, the size of that, or its unrealized profit.
@@ -44,13 +42,11 @@ pub fn measured(position: Position, measure: Measure, price: u32) -> Amount
     requires { PositionIn position × (price ≤ 100000000) }
     ensures { result ≡ amount (measured measure position price) }
 {
-    let quantity = position.quantity;
+    let worth = position.quantity.times(price as u64);
     match measure {
-        Measure::Worth => quantity.times(price as u64),
-        Measure::Size => Amount::of(quantity.size() * price as u64),
-        Measure::Profit => quantity
-            .times(price as u64)
-            .sub(quantity.times(position.average as u64)),
+        Measure::Worth => worth,
+        Measure::Size => Amount::of(worth.size()),
+        Measure::Profit => worth.sub(position.quantity.times(position.average as u64)),
     }
 }
 
@@ -58,11 +54,7 @@ pub fn measured(position: Position, measure: Measure, price: u32) -> Amount
 pub fn is_open(position: Position, priced: bool, price: u32) -> bool
     ensures { result ≡ is_open priced position price }
 {
-    let quantity = position.quantity;
-    if quantity.size() == 0 {
-        return false;
-    }
-    if price == 0 { !priced } else { priced }
+    position.quantity.size() != 0 && (price != 0) == priced
 }
 
 // In exact numbers: 100·|net| < gross, though the product may pass a u64. A hundredth of gross is rounded up: below it is below that.

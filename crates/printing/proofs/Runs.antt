@@ -1,16 +1,15 @@
 -- A run through the lines of a text: what is heard and printed of the lines that are left, after those that were taken, is what is of all.
-use Prim.Native.Nat.{ℕ, ◌+◌, ◌-◌, ◌*◌, ◌≤◌, ◌<◌}
+use Prim.Native.Nat.{ℕ, ◌+◌, ◌*◌, ◌≤◌, ◌<◌}
 use mathlib.Core.Path.{◌≡◌, refl, sym, ◌∙◌}
 use mathlib.Core.List.{List, [], ◌∷◌}
 use native.Mathlib.Omega.{arith}
-use lib.ListN.{length, take, drop, length-drop, drop_of_length-le}
+use lib.ListN.{length}
 use Rattle.decimals.specs.Decimals.{Puts}
 use Rattle.decimals.proofs.Puts.{kept, Owed, owed_start, owed-put, owed_end}
-use Rattle.streams.specs.Streams.{lines, line_end}
+use Rattle.streams.specs.Streams.{lines}
 use Rattle.receiver.specs.declared.Receiver.{Receiver}
 use Rattle.receiver.specs.Turns.{taken, turns, heard}
 use Rattle.printing.specs.Printed.{next, outcome_line, printed, counted}
-use Rattle.printing.proofs.Places.{line_there}
 
 -- a receiver after k lines with u bytes put in o, and a later one: with the text that is left it comes to the same as the first with all of it
 pub record SoFar (text : List ℕ) (r₀ : Receiver) (k₀ u₀ : ℕ) (o₀ rest : List ℕ) (r : Receiver) (k u : ℕ) (o : List ℕ) : Type 0 where
@@ -24,31 +23,25 @@ at-start text r k u o h = record { ends = refl; counts = refl; owed = owed_start
 
 -- a line taken, and its outcome put
 pub one_more_lem :
-    (text : List ℕ) (r₀ : Receiver) (k₀ u₀ : ℕ) (o₀ : List ℕ) (at : ℕ) (r : Receiver) (k u : ℕ) (o : List ℕ) →
-    SoFar text r₀ k₀ u₀ o₀ (drop at text) r k u o → at < length text →
-    (l : List ℕ) (end : ℕ) → end ≡ at + line_end (drop at text) → at < end → end ≤ length text → l ≡ take (end - at) (drop at text) →
+    (text : List ℕ) (r₀ : Receiver) (k₀ u₀ : ℕ) (o₀ rest : List ℕ) (r : Receiver) (k u : ℕ) (o : List ℕ) → SoFar text r₀ k₀ u₀ o₀ rest r k u o →
+    (l behind : List ℕ) → lines rest ≡ l ∷ lines behind → length behind < length rest →
     (r' : Receiver) (k' u' : ℕ) (o' : List ℕ) → r' ≡ (taken r l).receiver → k' ≡ next k → Puts (outcome_line (next k) (taken r l)) u o o' u' → u' ≤ u + 24 →
-    SoFar text r₀ k₀ u₀ o₀ (drop end text) r' k' u' o'
+    SoFar text r₀ k₀ u₀ o₀ behind r' k' u' o'
 unfolding heard turns printed counted
-one_more_lem text r₀ k₀ u₀ o₀ at r k u o w h l end e after within le r' k' u' o' er ek p short =
-    let n : end - at ≡ line_end (drop at text) = omega arith in
-    let there : lines (drop at text) ≡ l ∷ lines (drop end text) = rw (le, n, e) (line_there text at h) in
+one_more_lem text r₀ k₀ u₀ o₀ rest r k u o w l behind there less r' k' u' o' er ek p short =
     let outcome : List ℕ = outcome_line (next k) (taken r l) in
-    let left : List ℕ = printed (next k) (turns (taken r l).receiver (lines (drop end text))) in
+    let left : List ℕ = printed (next k) (turns (taken r l).receiver (lines behind)) in
     record {
       ends = w.ends ∙ rw (there, er);
       counts = w.counts ∙ rw (there, er, ek);
       owed = rw (er, ek) (owed-put _ u₀ o₀ outcome left u o u' o' (rw there at w.owed) p);
-      room = omega (arith, length-drop at text, length-drop end text, kept outcome o o' u u' p, w.room);
+      room = omega (arith, kept outcome o o' u u' p, w.room);
     }
 
 -- no line is left
 pub at_end :
-    (text : List ℕ) (r₀ : Receiver) (k₀ u₀ : ℕ) (o₀ : List ℕ) (at : ℕ) (r : Receiver) (k u : ℕ) (o : List ℕ) →
-    SoFar text r₀ k₀ u₀ o₀ (drop at text) r k u o → length text ≤ at →
+    (text : List ℕ) (r₀ : Receiver) (k₀ u₀ : ℕ) (o₀ rest : List ℕ) (r : Receiver) (k u : ℕ) (o : List ℕ) → SoFar text r₀ k₀ u₀ o₀ rest r k u o → length rest ≡ 0 →
     (r ≡ heard r₀ (lines text)) × (k ≡ counted k₀ (turns r₀ (lines text))) × Puts (printed k₀ (turns r₀ (lines text))) u₀ o₀ o u
 unfolding heard turns printed counted
-at_end text r₀ k₀ u₀ o₀ at r k u o w h =
-    let none : drop at text ≡ [] = drop_of_length-le text h in
-    let v = rw none at w in
-    (sym v.ends, sym v.counts, owed_end _ u₀ o₀ u o v.owed (omega (arith, v.room)))
+at_end text r₀ k₀ u₀ o₀ [] r k u o w h = (sym w.ends, sym w.counts, owed_end _ u₀ o₀ u o w.owed (omega (arith, w.room)))
+at_end text r₀ k₀ u₀ o₀ (x ∷ xs) r k u o w h = absurd (omega arith)

@@ -1,10 +1,9 @@
--- Laws of the end state's text: level by level, and how long it is at most.
-use Prim.Native.Nat.{ℕ, ◌+◌, ◌*◌, ◌≤◌, ◌<◌}
-use mathlib.Core.Bool.{cond}
+-- Laws of the texts that are put: an outcome's line is short; the end state's text level by level, and how long it is at most.
+use Prim.Native.Nat.{ℕ, min, ◌+◌, ◌*◌, ◌≤◌, ◌<◌}
 use mathlib.Core.Path.{◌≡◌, refl, sym}
 use mathlib.Core.List.{List, [], ◌∷◌, ◌++◌, append_assoc}
 use native.Mathlib.Omega.{arith}
-use borrow.Author.Tests.{leb-false}
+use borrow.Author.Tests.{leb-true, leb-false}
 use lib.Dec.{leb}
 use lib.ListN.{length, get_or, take, drop, length-append, length-take, drop_of_length-le}
 use lib.Seq.{take_all}
@@ -14,11 +13,15 @@ use Rattle.levels.specs.declared.Levels.{Levels}
 use Rattle.levels.specs.Table.{paired, levels, rows}
 use Rattle.levels.proofs.Tables.{levels-length, levels_cons}
 use Rattle.orderbook.specs.declared.OrderBook.{OrderBook}
-use Rattle.orderbook.specs.Inner.Long.{Long}
+use Rattle.orderbook.specs.declared.lent.BookRows.{BookRows}
+use Rattle.orderbook.specs.Lent.{book_in}
 use Rattle.decimals.specs.Decimals.{decimal, pair, Puts}
-use Rattle.decimals.proofs.Digits.{decimal-short, pair-length}
-use Rattle.decimals.proofs.Puts.{then, Owed, owed-put, owed_end, owed_room}
+use Rattle.decimals.proofs.Digits.{decimal-short, two_digits, pair-length}
+use Rattle.decimals.proofs.Puts.{then, room, front_room, rest_room, Owed, owed-put, owed_end, owed_room}
 use Rattle.printing.specs.Printed.{bid, ask, side_text, head_text, sides_text}
+
+-- how pieces are put one behind the other, and the room for each
+pub ruleset pieces = (then, front_room, rest_room)
 
 -- ── the rows of a side ──
 
@@ -54,13 +57,20 @@ module _ (word p q : List ℕ) (n i : ℕ) (lp : length p ≡ 128) (lq : length 
     side_end h r = let v = rw (side_done h) at w in owed_end all at o u now v (omega (arith, owed_room all at o [] u now r v))
 
 -- a count above 128 shows the 128 places
-pub same-levels : (p q : List ℕ) (n m : ℕ) → length p ≡ 128 → length q ≡ 128 → m ≡ cond (leb n 128) n 128 → levels (rows p q m) ≡ levels (rows p q n)
+pub same-levels : (p q : List ℕ) (n m : ℕ) → length p ≡ 128 → length q ≡ 128 → m ≡ min n 128 → levels (rows p q m) ≡ levels (rows p q n)
 same-levels p q n m lp lq e =
-    by (leb n 128) (λ t. rw (e, t)) (λ t.
+    by (leb n 128) (λ t. let h : m ≡ n = omega (arith, leb-true n 128 t) in rw h) (λ t.
+    let h : m ≡ 128 = omega (arith, leb-false n 128 t) in
     let far : 128 < n = leb-false n 128 t in
-    rw (e, t, take_all n p (omega arith), take_all n q (omega arith), take_all 128 p (omega arith), take_all 128 q (omega arith)))
+    rw (h, take_all n p (omega arith), take_all n q (omega arith), take_all 128 p (omega arith), take_all 128 q (omega arith)))
 
 -- ── lengths ──
+
+-- an outcome's line has 24 bytes at most
+pub outcome-short : (k n : ℕ) → n < 100 → length (pair k n) ≤ 24
+outcome-short k n h = omega (arith, pair-length k n, decimal-short k, two_digits n h)
+
+pub ruleset short_outcomes = (outcome-short)
 
 side_length : (word : List ℕ) (ls : List PriceLevel) → length word ≡ 4 → length (side_text word ls) ≤ 46 * length ls
 unfolding side_text
@@ -87,8 +97,9 @@ levels_few t h =
     omega (arith, paired-short (take t.count t.prices) (take t.count t.quantities), length-take t.count t.prices)
 
 -- the end state has at most 12,000 bytes
-pub end_short : (b : OrderBook) → Long b → length (head_text b.sequence) + length (sides_text b) ≤ 12000
-end_short b w =
+pub end_short : (r : BookRows) → length (head_text r.sequence) + length (sides_text (book_in r)) ≤ 12000
+end_short r =
+    let b = book_in r in
     omega (
       arith,
       head_length b.sequence,
@@ -96,21 +107,11 @@ end_short b w =
       sides_length b,
       side_length bid (levels b.bids) refl,
       side_length ask (levels b.asks) refl,
-      levels_few b.bids w.bid-prices,
-      levels_few b.asks w.ask-prices,
+      levels_few b.bids r.bids.long_prices,
+      levels_few b.asks r.asks.long_prices,
     )
 
--- ── pieces put ──
-
-pub head-put :
-    (n at u v x : ℕ) (o p q r : List ℕ) → Puts (108 ∷ 105 ∷ 118 ∷ 101 ∷ 32 ∷ []) at o p u → Puts (decimal n) u p q v → Puts (10 ∷ []) v q r x →
-    Puts (head_text n) at o r x
-unfolding head_text
-head-put n at u v x o p q r a b c = then (108 ∷ 105 ∷ 118 ∷ 101 ∷ 32 ∷ []) (decimal n ++ (10 ∷ [])) o p r at u x a (then (decimal n) (10 ∷ []) p q r u v x b c)
-
-pub sides-put :
-    (b : OrderBook) (bids asks : List PriceLevel) (at u x : ℕ) (o p q : List ℕ) → bids ≡ levels b.bids → asks ≡ levels b.asks →
-    Puts (side_text bid bids) at o p u → Puts (side_text ask asks) u p q x → Puts (sides_text b) at o q x
-unfolding sides_text
-sides-put b bids asks at u x o p q e f c d =
-    then (side_text bid (levels b.bids)) (side_text ask (levels b.asks)) o p q at u x (rw e at c) (rw f at d)
+-- the room for the sides behind the head
+pub sides_room :
+    {o p : List ℕ} {at m : ℕ} (r : BookRows) → Puts (head_text r.sequence) at o p m → at + 12000 ≤ length o → m + length (sides_text (book_in r)) ≤ length p
+sides_room {o} {p} {at} {m} r a h = room (head_text r.sequence) o p at m (length (sides_text (book_in r))) a (omega (arith, h, end_short r))

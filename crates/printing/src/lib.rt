@@ -2,108 +2,81 @@
 // (here); at the end of the feed the state is (ends.rt). Room is asked for, so that nothing is cut. specs/Printed.antt says what is printed.
 #![tactic(auto)]
 
-ghost use Rattle.std.specs.Prelude.{◌≡◌, ◌+◌, ◌-◌, ◌*◌, ◌≤◌, ◌<◌, length, drop};
-ghost use Rattle.types.specs.Answers.{reply_of_outcome};
+ghost use Rattle.std.specs.Prelude.{◌≡◌, ◌+◌, ◌*◌, ◌≤◌, ◌<◌, length};
+ghost use Rattle.types.specs.Answers.{reply_of};
 ghost use Rattle.decimals.specs.Decimals.{Puts};
-ghost use Rattle.streams.specs.Streams.{lines, line_end};
+ghost use Rattle.streams.specs.Streams.{lines};
 ghost use Rattle.receiver.specs.Turns.{taken, turns, heard as heardOf};
-ghost use Rattle.receiver.specs.Lent.{receiver_at};
 ghost use Rattle.printing.specs.Printed.{next as next_of, answer_number, outcome_line, printed, counted};
 
 pub mod ends; // ends.rt: the end state
 
 use decimals::put_pair;
-use deltas::Counts;
-use receiver::{State, rows};
-use streams::line_end;
+use receiver::{Receiver, rows};
 use told::Told;
-use types::Outcome;
+use types::Refusal;
 
-// The receiver beside its rows, how many lines it took, and how many bytes of the output are used.
+// A receiver, and how many lines it took.
 #[derive(Clone, Copy)]
 pub struct Heard {
-    pub state: State,
-    pub counts: Counts,
+    pub receiver: Receiver,
     pub number: u64,
-    pub used: usize,
 }
 
-fn next(number: u64) -> u64
-    ensures { result ≡ next_of number }
+fn outcome_number(outcome: Result<(), Refusal>) -> u64
+    ensures { (result ≡ answer_number (reply_of outcome)) × (result < 100) }
 {
-    if number < types::LAST_SEQUENCE {
-        return number + 1;
-    }
-    number
+    Told::of(outcome).number
 }
 
-fn outcome_number(outcome: Outcome) -> u64
-    ensures { (result ≡ answer_number (reply_of_outcome outcome)) × (result < 100) }
+// What a line makes of a receiver, where it stands: its rows are lent one by one, and what stands beside them is put back.
+fn take_line(receiver: &mut Receiver, line: &[u8]) -> Result<(), Refusal>
+    ensures { record { receiver = receiver.new; reply = reply_of result } ≡ taken receiver.old line.now }
 {
-    let told = Told::of_outcome(outcome);
-    told.number
-}
-
-// Where the line that starts at an index ends.
-fn next_line(text: &[u8], at: usize) -> usize
-    requires { at < length text.now }
-    ensures { (result ≡ at + line_end (drop at text.now)) × (at < result) × (result ≤ length text.now) }
-{
-    at + line_end(&text[at..])
-}
-
-// Takes one line, and puts its outcome into the output.
-fn take_one(
-    bp: &mut [u32; 128],
-    bq: &mut [u32; 128],
-    ap: &mut [u32; 128],
-    aq: &mut [u32; 128],
-    heard: Heard,
-    line: &[u8],
-    out: &mut [u8],
-) -> Heard
-    requires { heard.used + 24 ≤ length out.old }
-    ensures counts_value { receiver_at bp.new bq.new ap.new aq.new result.state result.counts ≡ (taken (receiver_at bp.old bq.old ap.old aq.old heard.state heard.counts) line.now).receiver }
-    ensures number_value { result.number ≡ next_of heard.number }
-    ensures puts { Puts (outcome_line (next_of heard.number) (taken (receiver_at bp.old bq.old ap.old aq.old heard.state heard.counts) line.now)) heard.used out.old out.new result.used }
-    ensures used_bound { result.used ≤ heard.used + 24 }
-{
-    let state = heard.state;
-    let turned = rows::take_line(bp, bq, ap, aq, state, heard.counts, line);
-    let number = next(heard.number);
-    let outcome = turned.outcome;
-    let used = put_pair(out, heard.used, number, outcome_number(outcome));
-    let state = turned.state;
-    let counts = turned.counts;
-    Heard {
-        state,
+    let counts = receiver.book.counts();
+    let turned = rows::take_line(
+        &mut receiver.book.bids.prices,
+        &mut receiver.book.bids.quantities,
+        &mut receiver.book.asks.prices,
+        &mut receiver.book.asks.quantities,
+        receiver.state,
         counts,
-        number,
-        used,
-    }
+        line,
+    );
+    receiver.state = turned.state;
+    receiver.book.bids.count = turned.counts.bids;
+    receiver.book.asks.count = turned.counts.asks;
+    receiver.book.sequence = turned.counts.sequence;
+    turned.outcome
 }
 
-// Takes each line of a text, the last one also where it has no line feed. A line has a byte at least, and its outcome 24 at most.
-pub fn take_lines(
-    bp: &mut [u32; 128],
-    bq: &mut [u32; 128],
-    ap: &mut [u32; 128],
-    aq: &mut [u32; 128],
-    heard: Heard,
-    text: &[u8],
-    out: &mut [u8],
-) -> Heard
-    requires { heard.used + 24 * length text.now ≤ length out.old }
-    ensures counts_value { receiver_at bp.new bq.new ap.new aq.new result.state result.counts ≡ heardOf (receiver_at bp.old bq.old ap.old aq.old heard.state heard.counts) (lines text.now) }
-    ensures number_value { result.number ≡ counted heard.number (turns (receiver_at bp.old bq.old ap.old aq.old heard.state heard.counts) (lines text.now)) }
-    ensures puts { Puts (printed heard.number (turns (receiver_at bp.old bq.old ap.old aq.old heard.state heard.counts) (lines text.now))) heard.used out.old out.new result.used }
-{
-    let mut now = heard;
-    let mut at = 0;
-    while at < text.len() {
-        let end = next_line(text, at);
-        now = take_one(bp, bq, ap, aq, now, &text[at..end], out);
-        at = end;
+impl Heard {
+    // Takes one line, and puts its outcome into the output; answers the place behind it.
+    #[tactic(auto, using(crate::proofs::Texts::short_outcomes))]
+    fn take_one(&mut self, line: &[u8], out: &mut [u8], at: usize) -> usize
+        requires { at + 24 ≤ length out.old }
+        ensures receiver_value { self.new.receiver ≡ (taken self.old.receiver line.now).receiver }
+        ensures number_value { self.new.number ≡ next_of self.old.number }
+        ensures puts { Puts (outcome_line (next_of self.old.number) (taken self.old.receiver line.now)) at out.old out.new result }
+        ensures used_bound { result ≤ at + 24 }
+    {
+        let outcome = take_line(&mut self.receiver, line);
+        self.number = self.number.saturating_add(1);
+        put_pair(out, at, self.number, outcome_number(outcome))
     }
-    now
+
+    // Takes each line of a text, the last one also where it has no line feed, and answers the place behind the outcomes that are put. A line has a
+    // byte at least, and its outcome 24 at most.
+    pub fn take_lines(&mut self, text: &[u8], out: &mut [u8], at: usize) -> usize
+        requires { at + 24 * length text.now ≤ length out.old }
+        ensures receiver_value { self.new.receiver ≡ heardOf self.old.receiver (lines text.now) }
+        ensures number_value { self.new.number ≡ counted self.old.number (turns self.old.receiver (lines text.now)) }
+        ensures puts { Puts (printed self.old.number (turns self.old.receiver (lines text.now))) at out.old out.new result }
+    {
+        let mut used = at;
+        for line in text.split_inclusive(|byte| *byte == b'\n') {
+            used = self.take_one(line, out, used);
+        }
+        used
+    }
 }

@@ -10,41 +10,24 @@ use Rattle.questions.specs.Questions.{best, best_quote}
 use Rattle.questions.specs.Kinds.{book_number, side_number, top_ratio, volume_ratio, trade_price, book_flag}
 use Rattle.questions.specs.declared.Question.{Question}
 use Rattle.questions.specs.declared.Question.TheVariants as Q
-use Rattle.questions.specs.declared.Answer.{Answer}
-use Rattle.questions.specs.declared.Answer.TheVariants as A
-
--- what an answer carries
-pub data Value : Type 0 where
-  number : ℕ → Value
-  flag : Bool → Value
-  level : PriceLevel → Value
-  quote : Quote → Value
-  ratio : Quotient → Value
-
--- a value, or a refusal
-abbrev pub reply_of : Answer → Reply Value
-reply_of (A.Number x) = done (number x)
-reply_of (A.Flag x) = done (flag x)
-reply_of (A.Level x) = done (level x)
-reply_of (A.Quote x) = done (quote x)
-reply_of (A.Ratio x) = done (ratio x)
-reply_of (A.Refused r) = refuse r
+use Rattle.questions.specs.declared.Value.{Value}
+use Rattle.questions.specs.declared.Value.TheVariants as V
 
 -- what a value is told as: a level's price and quantity, the best bid's and then the best ask's, a ratio
 abbrev pub values_in : Value → List ℤ
-values_in (number x) = one_number x
-values_in (flag x) = yes_or_no x
-values_in (level x) = one_level x
-values_in (quote x) = both_levels x
-values_in (ratio x) = one_ratio x
+values_in (V.Number x) = one_number x
+values_in (V.Flag x) = yes_or_no x
+values_in (V.Level x) = one_level x
+values_in (V.Quote x) = both_levels x
+values_in (V.Ratio x) = one_ratio x
 
 -- the reply of a book to a question
 unfoldable pub book_ask : OrderBook → Question → Reply Value
-book_ask b (Q.Best s) = map_reply level (best s b)
-book_ask b Q.BestQuote = map_reply quote (best_quote b)
-book_ask b (Q.Number q) = map_reply number (book_number q b)
-book_ask b (Q.OfSide s q) = map_reply number (side_number s q b)
-book_ask b (Q.OfTops q) = map_reply ratio (top_ratio q b)
-book_ask b (Q.OfVolumes q) = map_reply ratio (volume_ratio q b)
-book_ask b (Q.Traded s trade) = map_reply ratio (trade_price trade s b)
-book_ask b (Q.Flag q) = map_reply flag (book_flag q b)
+book_ask b (Q.Best s) = map_reply V.Level (best s b)
+book_ask b Q.BestQuote = map_reply V.Quote (best_quote b)
+book_ask b (Q.Number q) = map_reply V.Number (book_number q b)
+book_ask b (Q.OfSide s q) = map_reply V.Number (side_number s q b)
+book_ask b (Q.OfTops q) = map_reply V.Ratio (top_ratio q b)
+book_ask b (Q.OfVolumes q) = map_reply V.Ratio (volume_ratio q b)
+book_ask b (Q.Traded s trade) = map_reply V.Ratio (trade_price trade s b)
+book_ask b (Q.Flag q) = map_reply V.Flag (book_flag q b)

@@ -1,6 +1,6 @@
 -- The questions by their numbers.
 use Rattle.std.specs.Prelude.{ℕ, List, [], ◌∷◌, get_or, map}
-use Rattle.types.specs.Replies.{Reply, done, refused, refuse}
+use Rattle.types.specs.Replies.{Reply, done, refused}
 use Rattle.types.specs.declared.Side.{Side}
 use Rattle.asked.specs.declared.SideNumber.TheVariants as N
 use Rattle.asked.specs.declared.TopRatio.TheVariants as T
@@ -10,8 +10,6 @@ use Rattle.questions.specs.declared.kinds.BookNumber.TheVariants as B
 use Rattle.questions.specs.declared.kinds.BookFlag.TheVariants as F
 use Rattle.questions.specs.declared.Question.{Question}
 use Rattle.questions.specs.declared.Question.TheVariants as Q
-use Rattle.questions.specs.declared.numbered.Named.{Named}
-use Rattle.questions.specs.declared.numbered.Named.TheVariants.{Is, Refused}
 
 -- the questions in their order, from 0 to 27; `small` is a price or a quantity, `large` a count or a volume
 abbrev pub questions : Side → ℕ → ℕ → List Question
@@ -26,8 +24,3 @@ questions s small large =
 -- the question of a number, or 2 if it names none
 unfoldable pub question_named : ℕ → Side → ℕ → ℕ → Reply Question
 question_named n s small large = get_or (map done (questions s small large)) n (refused 2 [])
-
--- a question, or a refusal
-abbrev pub reply_of_question : Named → Reply Question
-reply_of_question (Is q) = done q
-reply_of_question (Refused r) = refuse r

@@ -1,19 +1,17 @@
 // What a book answers, lent as its rows: one function a kind of question. Each tests the record once, then hands the rows that the question
 // looks at to the sides.
 ghost use Rattle.std.specs.Prelude.{◌≡◌};
-ghost use Rattle.types.specs.Answers.{reply_of_number, reply_of_flag, reply_of_level, reply_of_quote};
-ghost use Rattle.quotient.specs.Over.{reply_of_ratio};
+ghost use Rattle.types.specs.Answers.{reply_of};
 ghost use Rattle.questions.specs.Questions.{best, best_quote};
-ghost use Rattle.orderbook.specs.Lent.{lent_book};
+ghost use Rattle.orderbook.specs.Lent.{book_in};
 ghost use Rattle.questions.specs.Kinds.{book_number, side_number, top_ratio, volume_ratio, trade_price, book_flag};
 ghost use Rattle.questions.specs.Inner.Walked.{walked_by};
 
 use asked::{SideNumber, TopRatio, Trade, VolumeRatio, depth};
-use deltas::Counts;
-use orderbook::rows;
-use quotient::Ratio;
+use orderbook::lent::BookRows;
+use quotient::Quotient;
 use sides::{top, volume};
-use types::{FlagAnswer, LevelAnswer, NumberAnswer, Price, QuoteAnswer, Refusal, Side};
+use types::{Price, PriceLevel, Quote, Refusal, Side};
 
 // A number of the whole book.
 #[derive(Clone, Copy)]
@@ -33,120 +31,66 @@ pub enum BookFlag {
 }
 
 // The best level of a side.
-pub fn best<'a>(
-    bp: &'a [u32; 128],
-    bq: &'a [u32; 128],
-    ap: &'a [u32; 128],
-    aq: &'a [u32; 128],
-    counts: Counts,
-    side: Side,
-) -> LevelAnswer
-    ensures { reply_of_level result ≡ best side (lent_book bp bq ap aq counts) }
+pub fn best(book: BookRows<'_>, side: Side) -> Result<PriceLevel, Refusal>
+    ensures { reply_of result ≡ best side (book_in book.entry) }
 {
-    if !rows::is_book(bp, bq, ap, aq, counts) {
-        return LevelAnswer::Refused(Refusal::NotARecord);
+    if !book.is_book() {
+        return Err(Refusal::NotARecord);
     }
-    let prices = rows::row_of(side, bp, ap);
-    let quantities = rows::row_of(side, bq, aq);
-    let n = counts.of(side);
-    top::best_level(top::best_of(prices, quantities, n))
+    top::best_level(top::best_of(book.side(side)))
 }
 
 // Both best levels.
-pub fn best_quote<'a>(
-    bp: &'a [u32; 128],
-    bq: &'a [u32; 128],
-    ap: &'a [u32; 128],
-    aq: &'a [u32; 128],
-    counts: Counts,
-) -> QuoteAnswer
-    ensures { reply_of_quote result ≡ best_quote (lent_book bp bq ap aq counts) }
+pub fn best_quote(book: BookRows<'_>) -> Result<Quote, Refusal>
+    ensures { reply_of result ≡ best_quote (book_in book.entry) }
 {
-    if !rows::is_book(bp, bq, ap, aq, counts) {
-        return QuoteAnswer::Refused(Refusal::NotARecord);
+    if !book.is_book() {
+        return Err(Refusal::NotARecord);
     }
-    let bid = top::best_of(bp, bq, counts.bids);
-    let ask = top::best_of(ap, aq, counts.asks);
-    top::best_quote(bid, ask)
+    top::best_quote(top::best_of(book.bids), top::best_of(book.asks))
 }
 
-pub fn number<'a>(
-    bp: &'a [u32; 128],
-    bq: &'a [u32; 128],
-    ap: &'a [u32; 128],
-    aq: &'a [u32; 128],
-    counts: Counts,
-    question: BookNumber,
-) -> NumberAnswer
-    ensures { reply_of_number result ≡ book_number question (lent_book bp bq ap aq counts) }
+pub fn number(book: BookRows<'_>, question: BookNumber) -> Result<u64, Refusal>
+    ensures { reply_of result ≡ book_number question (book_in book.entry) }
 {
-    if !rows::is_book(bp, bq, ap, aq, counts) {
-        return NumberAnswer::Refused(Refusal::NotARecord);
+    if !book.is_book() {
+        return Err(Refusal::NotARecord);
     }
-    let bids = counts.bids;
-    let asks = counts.asks;
     match question {
-        BookNumber::Spread => top::spread(top::best_of(bp, bq, bids), top::best_of(ap, aq, asks)),
-        BookNumber::TotalLevels => NumberAnswer::Is((bids + asks) as u64),
-        BookNumber::Sequence => NumberAnswer::Is(counts.sequence),
-        BookNumber::TickSize => depth::tick_size(bp, bids, ap, asks),
+        BookNumber::Spread => top::spread(top::best_of(book.bids), top::best_of(book.asks)),
+        BookNumber::TotalLevels => Ok((book.bids.count + book.asks.count) as u64),
+        BookNumber::Sequence => Ok(book.sequence),
+        BookNumber::TickSize => depth::tick_size(book.bids, book.asks),
     }
 }
 
-pub fn side_number<'a>(
-    bp: &'a [u32; 128],
-    bq: &'a [u32; 128],
-    ap: &'a [u32; 128],
-    aq: &'a [u32; 128],
-    counts: Counts,
-    side: Side,
-    question: SideNumber,
-) -> NumberAnswer
-    ensures { reply_of_number result ≡ side_number side question (lent_book bp bq ap aq counts) }
+pub fn side_number(book: BookRows<'_>, side: Side, question: SideNumber) -> Result<u64, Refusal>
+    ensures { reply_of result ≡ side_number side question (book_in book.entry) }
 {
-    if !rows::is_book(bp, bq, ap, aq, counts) {
-        return NumberAnswer::Refused(Refusal::NotARecord);
+    if !book.is_book() {
+        return Err(Refusal::NotARecord);
     }
-    let prices = rows::row_of(side, bp, ap);
-    let quantities = rows::row_of(side, bq, aq);
-    let n = counts.of(side);
-    asked::side_number(side, prices, quantities, n, question)
+    asked::side_number(side, book.side(side), question)
 }
 
-pub fn top_ratio<'a>(
-    bp: &'a [u32; 128],
-    bq: &'a [u32; 128],
-    ap: &'a [u32; 128],
-    aq: &'a [u32; 128],
-    counts: Counts,
-    question: TopRatio,
-) -> Ratio
-    ensures { reply_of_ratio result ≡ top_ratio question (lent_book bp bq ap aq counts) }
+pub fn top_ratio(book: BookRows<'_>, question: TopRatio) -> Result<Quotient, Refusal>
+    ensures { reply_of result ≡ top_ratio question (book_in book.entry) }
 {
-    if !rows::is_book(bp, bq, ap, aq, counts) {
-        return Ratio::Refused(Refusal::NotARecord);
+    if !book.is_book() {
+        return Err(Refusal::NotARecord);
     }
-    let bid = top::best_of(bp, bq, counts.bids);
-    let ask = top::best_of(ap, aq, counts.asks);
-    asked::top_ratio(bid, ask, question)
+    asked::top_ratio(top::best_of(book.bids), top::best_of(book.asks), question)
 }
 
-pub fn volume_ratio<'a>(
-    bp: &'a [u32; 128],
-    bq: &'a [u32; 128],
-    ap: &'a [u32; 128],
-    aq: &'a [u32; 128],
-    counts: Counts,
-    question: VolumeRatio,
-) -> Ratio
-    ensures { reply_of_ratio result ≡ volume_ratio question (lent_book bp bq ap aq counts) }
+pub fn volume_ratio(book: BookRows<'_>, question: VolumeRatio) -> Result<Quotient, Refusal>
+    ensures { reply_of result ≡ volume_ratio question (book_in book.entry) }
 {
-    if !rows::is_book(bp, bq, ap, aq, counts) {
-        return Ratio::Refused(Refusal::NotARecord);
+    if !book.is_book() {
+        return Err(Refusal::NotARecord);
     }
     let depth = question.depth(types::MAX_LEVELS);
-    let bid = volume::best_total(bp, bq, counts.bids, depth);
-    let ask = volume::best_total(ap, aq, counts.asks, depth);
+    let bid = volume::best_total(book.bids, depth);
+    let ask = volume::best_total(book.asks, depth);
     asked::volume_ratio(bid, ask, question)
 }
 
@@ -163,50 +107,25 @@ fn walked(side: Side, trade: Trade) -> Side
     }
 }
 
-pub fn trade_price<'a>(
-    bp: &'a [u32; 128],
-    bq: &'a [u32; 128],
-    ap: &'a [u32; 128],
-    aq: &'a [u32; 128],
-    counts: Counts,
-    side: Side,
-    trade: Trade,
-) -> Ratio
-    ensures { reply_of_ratio result ≡ trade_price trade side (lent_book bp bq ap aq counts) }
+pub fn trade_price(book: BookRows<'_>, side: Side, trade: Trade) -> Result<Quotient, Refusal>
+    ensures { reply_of result ≡ trade_price trade side (book_in book.entry) }
 {
-    if !rows::is_book(bp, bq, ap, aq, counts) {
-        return Ratio::Refused(Refusal::NotARecord);
+    if !book.is_book() {
+        return Err(Refusal::NotARecord);
     }
-    let taken = walked(side, trade);
-    let prices = rows::row_of(taken, bp, ap);
-    let quantities = rows::row_of(taken, bq, aq);
-    let n = counts.of(taken);
-    asked::trade_price(prices, quantities, n, trade)
+    asked::trade_price(book.side(walked(side, trade)), trade)
 }
 
-pub fn flag<'a>(
-    bp: &'a [u32; 128],
-    bq: &'a [u32; 128],
-    ap: &'a [u32; 128],
-    aq: &'a [u32; 128],
-    counts: Counts,
-    question: BookFlag,
-) -> FlagAnswer
-    ensures { reply_of_flag result ≡ book_flag question (lent_book bp bq ap aq counts) }
+pub fn flag(book: BookRows<'_>, question: BookFlag) -> Result<bool, Refusal>
+    ensures { reply_of result ≡ book_flag question (book_in book.entry) }
 {
-    if !rows::is_book(bp, bq, ap, aq, counts) {
-        return FlagAnswer::Refused(Refusal::NotARecord);
+    if !book.is_book() {
+        return Err(Refusal::NotARecord);
     }
     match question {
-        BookFlag::HasPrice(side, price) => depth::has_price(
-            side,
-            rows::row_of(side, bp, ap),
-            rows::row_of(side, bq, aq),
-            counts.of(side),
-            price,
-        ),
-        BookFlag::IsEmpty => FlagAnswer::Is(counts.bids + counts.asks == 0),
+        BookFlag::HasPrice(side, price) => depth::has_price(side, book.side(side), price),
+        BookFlag::IsEmpty => Ok(book.bids.count + book.asks.count == 0),
         // a book's best bid is below its best ask, as the test of the record has just said
-        BookFlag::IsCrossed => FlagAnswer::Is(false),
+        BookFlag::IsCrossed => Ok(false),
     }
 }

@@ -1,24 +1,18 @@
 // The questions by their numbers, for callers that are not Rattle.
 ghost use Rattle.std.specs.Prelude.{◌≡◌};
-ghost use Rattle.questions.specs.Numbered.{question_named, reply_of_question};
+ghost use Rattle.types.specs.Answers.{reply_of};
+ghost use Rattle.questions.specs.Numbered.{question_named};
 
 use crate::Question;
 use crate::kinds::{BookFlag, BookNumber};
 use asked::{SideNumber, TopRatio, Trade, VolumeRatio};
 use types::{Price, Refusal, Side};
 
-// A question, or that the number names none.
-#[derive(Clone, Copy)]
-pub enum Named {
-    Is(Question),
-    Refused(Refusal),
-}
-
 // The questions from 0 to 27; 2 for any other number. `small` is a price or a quantity, `large` a count or a volume.
-pub fn question_of(number: u64, side: Side, small: Price, large: u64) -> Named
-    ensures { reply_of_question result ≡ question_named number side small large }
+pub fn question_of(number: u64, side: Side, small: Price, large: u64) -> Result<Question, Refusal>
+    ensures { reply_of result ≡ question_named number side small large }
 {
-    Named::Is(match number {
+    Ok(match number {
         0 => Question::Best(side),
         1 => Question::OfSide(side, SideNumber::BestPrice),
         2 => Question::OfSide(side, SideNumber::BestQuantity),
@@ -47,6 +41,6 @@ pub fn question_of(number: u64, side: Side, small: Price, large: u64) -> Named
         25 => Question::Traded(side, Trade::VwapForQty(small)),
         26 => Question::Traded(side, Trade::PriceImpact(small)),
         27 => Question::OfSide(side, SideNumber::PriceAtVolume(large)),
-        _ => return Named::Refused(Refusal::OutOfLimits),
+        _ => return Err(Refusal::OutOfLimits),
     })
 }

@@ -3,7 +3,8 @@
 #![tactic(auto)]
 
 ghost use Rattle.std.specs.Prelude.{◌≡◌};
-ghost use Rattle.quotient.specs.Over.{over, over_or_none, reply_of_ratio};
+ghost use Rattle.types.specs.Answers.{reply_of};
+ghost use Rattle.quotient.specs.Over.{over_or_none};
 
 use amount::Amount;
 use types::Refusal;
@@ -15,33 +16,17 @@ pub struct Quotient {
     pub denominator: u64,
 }
 
-// A quotient, or why there is none.
-#[derive(Clone, Copy)]
-pub enum Ratio {
-    Is(Quotient),
-    Refused(Refusal),
-}
-
 impl Quotient {
-    // What is over what, of a denominator that is not 0: `Ratio::over` is the way to it.
-    fn over(numerator: Amount, denominator: u64) -> Quotient
-        ensures { result ≡ over numerator.value denominator }
-    {
-        Quotient {
-            numerator,
-            denominator,
-        }
-    }
-}
-
-impl Ratio {
-    // The quotient; a zero denominator gives 10.
-    pub fn over(numerator: Amount, denominator: u64) -> Ratio
-        ensures { reply_of_ratio result ≡ over_or_none numerator.value denominator }
+    // What is over what; a zero denominator gives 10.
+    pub fn over(numerator: Amount, denominator: u64) -> Result<Quotient, Refusal>
+        ensures { reply_of result ≡ over_or_none numerator.value denominator }
     {
         if denominator == 0 {
-            return Ratio::Refused(Refusal::NoValue);
+            return Err(Refusal::NoValue);
         }
-        Ratio::Is(Quotient::over(numerator, denominator))
+        Ok(Quotient {
+            numerator,
+            denominator,
+        })
     }
 }

@@ -10,7 +10,7 @@ use borrow.Author.Tests.{ltb-true, leb-true, eqb-true}
 use lib.Dec.{eqb, leb}
 use lib.IntN.{ℤ}
 use Rattle.types.specs.Replies.{Reply, done, refused}
-use Rattle.types.proofs.Once.{one_outcome}
+use Rattle.types.proofs.Once.{one_answer}
 use Rattle.types.proofs.Booleans.{by}
 use Rattle.orderbook.specs.declared.OrderBook.{OrderBook}
 use Rattle.deltas.specs.declared.BookDelta.{BookDelta}
@@ -145,5 +145,5 @@ heard_more r (l ∷ ls) ms = heard_more (taken r l).receiver ls ms
 pub one-turn : (t : Turn) (x y : Taken) → turn_of x ≡ t → turn_of y ≡ t → x ≡ y
 one-turn t x y e f =
     let receiver : x.receiver ≡ y.receiver = ap (λ (u : Turn). u.receiver) (e ∙ sym f) in
-    let outcome : x.outcome ≡ y.outcome = one_outcome t.reply x.outcome y.outcome (ap (λ (u : Turn). u.reply) e) (ap (λ (u : Turn). u.reply) f) in
+    let outcome : x.outcome ≡ y.outcome = one_answer t.reply x.outcome y.outcome (ap (λ (u : Turn). u.reply) e) (ap (λ (u : Turn). u.reply) f) in
     λ i. record { receiver = receiver i; outcome = outcome i }

@@ -1,4 +1,5 @@
 -- What a line's turn is, case by case: by what was read, and for a delta by its number.
+use Rattle.std.specs.Prelude.{Result, Ok, Err}
 use Prim.Native.Nat.{ℕ, ◌+◌, ◌<◌, ◌≤◌}
 use mathlib.Core.Bool.{true, false}
 use mathlib.Core.Option.{Option, none, some}
@@ -8,22 +9,19 @@ use native.Mathlib.Omega.{arith}
 use borrow.Author.Tests.{lt-ltb, le-leb, lt-leb, eq-eqb, ne_eqb}
 use Rattle.types.specs.Limits.{last_sequence}
 use Rattle.types.specs.Replies.{Reply, done, refused, number_of, values_of, refuse}
-use Rattle.types.specs.Answers.{reply_of_outcome}
-use Rattle.types.specs.declared.Outcome.{Outcome}
-use Rattle.types.specs.declared.Outcome.TheVariants as O
+use Rattle.types.specs.Answers.{reply_of}
 use Rattle.types.specs.declared.Refusal.{Refusal}
 use Rattle.deltas.specs.declared.BookDelta.{BookDelta}
 use Rattle.deltas.specs.Delta.{delta_fits}
 use Rattle.deltas.specs.Inner.Deciding.{step_of}
 use Rattle.deltas.specs.Inner.Admitting.{Admission}
 use Rattle.orderbook.specs.declared.OrderBook.{OrderBook}
-use Rattle.orderbook.specs.declared.Applied.{Applied}
-use Rattle.orderbook.specs.Apply.{Change, change_of, applied}
+use Rattle.orderbook.specs.Apply.{Change, applied}
 use Rattle.orderbook.proofs.Kept.{delta_keeps}
 use Rattle.frames.specs.Frames.{Frame, delta, snapshot}
 use Rattle.frames.specs.Decode.{decode, delta_read}
 use Rattle.frames.proofs.Reading.{as_read}
-use Rattle.lines.specs.Read.{snapshot_read}
+use Rattle.lines.specs.Read.{change_read, snapshot_read}
 use Rattle.receiver.specs.declared.State.{State}
 use Rattle.receiver.specs.declared.State.TheVariants.{Waiting, Live}
 use Rattle.receiver.specs.declared.Receiver.{Receiver}
@@ -63,20 +61,20 @@ module _ (r : Receiver) (l : List ℕ) where
 
 -- ── a snapshot ──
 
-module _ (r : Receiver) (a : Applied) (is-done : a.outcome ≡ O.Done) where
+module _ (r : Receiver) (s : OrderBook) where
   pub loaded_turn :
-      (b : OrderBook) → loads r.state (held r) a.book.sequence ≡ true → b ≡ a.book →
-      ◌≡◌ {A = Turn} (record { receiver = record { state = Live; book = b }; reply = reply_of_outcome a.outcome }) (other_turn r (change_of a))
-  loaded_turn b h e = rw (is-done, h, e)
+      (b : OrderBook) → loads r.state (held r) s.sequence ≡ true → b ≡ s →
+      ◌≡◌ {A = Turn} (record { receiver = record { state = Live; book = b }; reply = done tt }) (other_turn r (change_read (Ok s)))
+  loaded_turn b h e = rw (h, e)
 
-  pub old_snapshot : loads r.state (held r) a.book.sequence ≡ false → stays r 14 ≡ other_turn r (change_of a)
-  old_snapshot h = rw (is-done, h)
+  pub old_snapshot : loads r.state (held r) s.sequence ≡ false → stays r 14 ≡ other_turn r (change_read (Ok s))
+  old_snapshot h = rw h
 
 -- ── a delta ──
 
 module _ (r : Receiver) (d : BookDelta) where
   -- the next one is admitted where its numbers are within their limits
-  pub next_admitted : delta_fits d.action d.price d.quantity ≡ true → held r < last_sequence → d.sequence ≡ held r + 1 → Admission O.Done (held r) d
+  pub next_admitted : delta_fits d.action d.price d.quantity ≡ true → held r < last_sequence → d.sequence ≡ held r + 1 → Admission (Ok tt) (held r) d
   unfolding step_of
   next_admitted h k e = λ _ _ _ _. rw (h, lt-ltb (held r) last_sequence k, eq-eqb d.sequence (held r + 1) e)
 
@@ -94,18 +92,18 @@ module _ (r : Receiver) (d : BookDelta) where
     gap-turn h = rw (live, lt-leb d.sequence (held r) (omega arith), ne_eqb d.sequence (held r + 1) (λ e. omega arith))
 
     -- the next delta, by what `apply_to_book` left
-    module _ (b : OrderBook) (o : Outcome) (given : ◌≡◌ {A = Change} (record { book = b; reply = reply_of_outcome o }) (applied r.book d)) where
-      pub done_turn : o ≡ O.Done → live_at b ≡ next_turn r (applied r.book d).reply (applied r.book d).book
-      done_turn e = ap (λ (x : Outcome). next_turn r (reply_of_outcome x) b) (sym e) ∙ ap (λ (c : Change). next_turn r c.reply c.book) given
+    module _ (b : OrderBook) (o : Result (Unit {0}) Refusal) (given : ◌≡◌ {A = Change} (record { book = b; reply = reply_of o }) (applied r.book d)) where
+      pub done_turn : o ≡ (Ok tt) → live_at b ≡ next_turn r (applied r.book d).reply (applied r.book d).book
+      done_turn e = ap (λ (x : Result (Unit {0}) Refusal). next_turn r (reply_of x) b) (sym e) ∙ ap (λ (c : Change). next_turn r c.reply c.book) given
 
       pub refused-turn :
-          (x : Refusal) → o ≡ O.Refused x →
+          (x : Refusal) → o ≡ Err x →
           record { receiver = record { state = Waiting; book = b }; reply = refused 17 [] } ≡ next_turn r (applied r.book d).reply (applied r.book d).book
       refused-turn x e =
           let kept : b ≡ r.book = ap (λ (c : Change). c.book) given
-          ∙ (delta_keeps r.book d).same (number_of x) (values_of x) (sym (ap (λ (c : Change). c.reply) given) ∙ ap reply_of_outcome e) in
+          ∙ (delta_keeps r.book d).same (number_of x) (values_of x) (sym (ap (λ (c : Change). c.reply) given) ∙ ap reply_of e) in
           ap (λ (y : OrderBook). record { receiver = record { state = Waiting; book = y }; reply = refused 17 [] }) kept
-          ∙ ap (λ (y : Outcome). next_turn r (reply_of_outcome y) b) (sym e)
+          ∙ ap (λ (y : Result (Unit {0}) Refusal). next_turn r (reply_of y) b) (sym e)
           ∙ ap (λ (c : Change). next_turn r c.reply c.book) given
 
 -- what becomes of the next delta does not ask for the state

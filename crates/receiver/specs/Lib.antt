@@ -3,3 +3,4 @@ pub mod Kept
 pub mod Lent
 pub mod Inner
 pub mod Examples
+pub mod Numbers

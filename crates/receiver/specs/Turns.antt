@@ -2,7 +2,7 @@
 use Rattle.std.specs.Prelude.{ℕ, ◌+◌, Bool, cond, List, [], ◌∷◌, eqb, leb, ltb}
 use Rattle.std.proofs.Math.Option.{Option, none, some}
 use Rattle.types.specs.Replies.{Reply, done, refused}
-use Rattle.types.specs.Answers.{reply_of_outcome}
+use Rattle.types.specs.Answers.{reply_of}
 use Rattle.orderbook.specs.declared.OrderBook.{OrderBook}
 use Rattle.deltas.specs.declared.BookDelta.{BookDelta}
 use Rattle.orderbook.specs.Book.{is_book, empty_book}
@@ -33,7 +33,7 @@ pub record Turn : Type 0 where
 
 -- what a call gave back
 abbrev pub turn_of : Taken → Turn
-turn_of r = record { receiver = r.receiver; reply = reply_of_outcome r.outcome }
+turn_of r = record { receiver = r.receiver; reply = reply_of r.outcome }
 
 -- live with a book: 0
 abbrev pub live_at : OrderBook → Turn

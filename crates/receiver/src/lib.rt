@@ -3,19 +3,39 @@
 #![tactic(auto)]
 
 ghost use Rattle.std.specs.Prelude.{◌≡◌};
+ghost use Rattle.receiver.specs.Numbers.{state_if, state_number};
 ghost use Rattle.receiver.specs.Turns.{is_receiver, start, turn_of, taken};
 
 pub mod rows; // rows.rt: a line to a receiver that is lent
 
-use deltas::Counts;
-use levels::Levels;
 use orderbook::OrderBook;
-use types::Outcome;
+use types::Refusal;
 
 #[derive(Clone, Copy)]
 pub enum State {
     Waiting,
     Live,
+}
+
+// Live where the flag is set, else waiting.
+impl From<bool> for State {
+    ghost from_gives = { λ live state. state ≡ state_if live };
+
+    fn from(live: bool) -> State {
+        if live { State::Live } else { State::Waiting }
+    }
+}
+
+// 0 waiting, 1 live.
+impl From<State> for u64 {
+    ghost from_gives = { λ state n. n ≡ state_number state };
+
+    fn from(state: State) -> u64 {
+        match state {
+            State::Waiting => 0,
+            State::Live => 1,
+        }
+    }
 }
 
 // Waiting or live, and a book, whose sequence is the number held.
@@ -29,7 +49,7 @@ pub struct Receiver {
 #[derive(Clone, Copy)]
 pub struct Taken {
     pub receiver: Receiver,
-    pub outcome: Outcome,
+    pub outcome: Result<(), Refusal>,
 }
 
 impl Receiver {
@@ -50,40 +70,26 @@ impl Receiver {
     }
 
     // What a line makes of a receiver, its line feed included; bytes after the last line feed are one line.
-    pub fn take_line(self, line: &[u8]) -> Taken
+    pub fn take_line(mut self, line: &[u8]) -> Taken
         ensures { turn_of result ≡ taken self line.now }
     {
-        let state = self.state;
-        let counts = Counts {
-            bids: self.book.bids.count,
-            asks: self.book.asks.count,
-            sequence: self.book.sequence,
-        };
-        let mut bp = self.book.bids.prices;
-        let mut bq = self.book.bids.quantities;
-        let mut ap = self.book.asks.prices;
-        let mut aq = self.book.asks.quantities;
-        let turned = rows::take_line(&mut bp, &mut bq, &mut ap, &mut aq, state, counts, line);
-        let bids = Levels {
-            prices: bp,
-            quantities: bq,
-            count: turned.counts.bids,
-        };
-        let asks = Levels {
-            prices: ap,
-            quantities: aq,
-            count: turned.counts.asks,
-        };
-        let book = OrderBook {
-            bids,
-            asks,
-            sequence: turned.counts.sequence,
-        };
-        let state = turned.state;
-        let outcome = turned.outcome;
+        let counts = self.book.counts();
+        let turned = rows::take_line(
+            &mut self.book.bids.prices,
+            &mut self.book.bids.quantities,
+            &mut self.book.asks.prices,
+            &mut self.book.asks.quantities,
+            self.state,
+            counts,
+            line,
+        );
+        self.state = turned.state;
+        self.book.bids.count = turned.counts.bids;
+        self.book.asks.count = turned.counts.asks;
+        self.book.sequence = turned.counts.sequence;
         Taken {
-            receiver: Receiver { state, book },
-            outcome,
+            receiver: self,
+            outcome: turned.outcome,
         }
     }
 }

@@ -1,32 +1,30 @@
 // A line to a receiver that is lent: its book as four rows (bid prices, bid quantities, ask prices, ask quantities), and its state and
-// counts beside them. No row is copied but those of a snapshot that is loaded.
-ghost use Rattle.std.specs.Prelude.{◌≡◌, true};
-ghost use Rattle.types.specs.Answers.{reply_of_outcome};
-ghost use Rattle.types.specs.declared.Outcome.TheVariants.{Done};
+// counts beside them. No row is copied but those of a snapshot that is loaded. The rows are lent one by one, as in `orderbook`'s rows.rt, and for its reason.
+ghost use Rattle.std.specs.Prelude.{◌≡◌, true, Ok};
+ghost use Rattle.types.specs.Answers.{reply_of};
 ghost use Rattle.deltas.specs.Delta.{delta_fits};
 ghost use Rattle.deltas.specs.Inner.Admitting.{Admission};
 ghost use Rattle.orderbook.specs.Book.{is_book};
-ghost use Rattle.orderbook.specs.Apply.{change_of};
 ghost use Rattle.orderbook.specs.Lent.{book_at};
 ghost use Rattle.orderbook.specs.Inner.Long.{Long};
 ghost use Rattle.receiver.specs.declared.State.TheVariants.{Live};
+ghost use Rattle.lines.specs.Read.{change_read};
 ghost use Rattle.receiver.specs.Turns.{loads, delta_turn, taken};
 ghost use Rattle.receiver.specs.Lent.{receiver_at};
 ghost use Rattle.receiver.specs.Inner.Others.{other_turn, next_by};
 
 use crate::State;
 use deltas::{BookDelta, Counts};
-use frames::DeltaAnswer;
 use lines::snapshot;
-use orderbook::{Applied, OrderBook, rows};
-use types::{Outcome, Refusal};
+use orderbook::{OrderBook, rows};
+use types::Refusal;
 
 // What a line leaves beside the rows.
 #[derive(Clone, Copy)]
 pub struct Turned {
     pub state: State,
     pub counts: Counts,
-    pub outcome: Outcome,
+    pub outcome: Result<(), Refusal>,
 }
 
 // Whether a snapshot of this sequence is loaded: not older while waiting, newer while live.
@@ -72,31 +70,32 @@ fn take_other(
     aq: &mut [u32; 128],
     state: State,
     counts: Counts,
-    read: Applied,
+    read: Result<OrderBook, Refusal>,
 ) -> Turned
-    ensures { record { receiver = receiver_at bp.new bq.new ap.new aq.new result.state result.counts; reply = reply_of_outcome result.outcome } ≡ other_turn (receiver_at bp.old bq.old ap.old aq.old state counts) (change_of read) }
+    ensures { record { receiver = receiver_at bp.new bq.new ap.new aq.new result.state result.counts; reply = reply_of result.outcome } ≡ other_turn (receiver_at bp.old bq.old ap.old aq.old state counts) (change_read read) }
 {
-    let outcome = read.outcome;
-    let Outcome::Done = outcome else {
-        let unchanged = state;
-        return Turned {
-            state: unchanged,
-            counts,
-            outcome,
-        };
+    let book = match read {
+        Ok(book) => book,
+        Err(why) => {
+            let unchanged = state;
+            return Turned {
+                state: unchanged,
+                counts,
+                outcome: Err(why),
+            };
+        }
     };
-    if loads(state, counts.sequence, read.book.sequence) {
-        let counts = load(bp, bq, ap, aq, read.book);
+    if loads(state, counts.sequence, book.sequence) {
         return Turned {
             state: State::Live,
-            counts,
-            outcome,
+            counts: load(bp, bq, ap, aq, book),
+            outcome: Ok(()),
         };
     }
     Turned {
         state,
         counts,
-        outcome: Outcome::Refused(Refusal::OldFrame),
+        outcome: Err(Refusal::OldFrame),
     }
 }
 
@@ -109,22 +108,20 @@ fn take_next(
     counts: Counts,
     delta: BookDelta,
 ) -> Turned
-    requires { (is_book (book_at bp.old bq.old ap.old aq.old counts) ≡ true) × Long (book_at bp.old bq.old ap.old aq.old counts) × Admission Done counts.sequence delta }
-    ensures { record { receiver = receiver_at bp.new bq.new ap.new aq.new result.state result.counts; reply = reply_of_outcome result.outcome } ≡ next_by (receiver_at bp.old bq.old ap.old aq.old Live counts) delta }
+    requires { (is_book (book_at bp.old bq.old ap.old aq.old counts) ≡ true) × Long (book_at bp.old bq.old ap.old aq.old counts) × Admission (Ok tt) counts.sequence delta }
+    ensures { record { receiver = receiver_at bp.new bq.new ap.new aq.new result.state result.counts; reply = reply_of result.outcome } ≡ next_by (receiver_at bp.old bq.old ap.old aq.old Live counts) delta }
 {
-    let next = rows::apply_to_book(bp, bq, ap, aq, counts, delta);
-    let outcome = next.outcome;
-    let counts = next.counts;
-    match outcome {
-        Outcome::Done => Turned {
+    let mut counts = counts;
+    match rows::apply_to_book(bp, bq, ap, aq, &mut counts, delta) {
+        Ok(()) => Turned {
             state: State::Live,
             counts,
-            outcome: Outcome::Done,
+            outcome: Ok(()),
         },
-        Outcome::Refused(_) => Turned {
+        Err(_) => Turned {
             state: State::Waiting,
             counts,
-            outcome: Outcome::Refused(Refusal::RefusedDelta),
+            outcome: Err(Refusal::RefusedDelta),
         },
     }
 }
@@ -140,27 +137,27 @@ fn take_delta(
     delta: BookDelta,
 ) -> Turned
     requires { (is_book (book_at bp.old bq.old ap.old aq.old counts) ≡ true) × Long (book_at bp.old bq.old ap.old aq.old counts) × (delta_fits delta.action delta.price delta.quantity ≡ true) }
-    ensures { record { receiver = receiver_at bp.new bq.new ap.new aq.new result.state result.counts; reply = reply_of_outcome result.outcome } ≡ delta_turn state (receiver_at bp.old bq.old ap.old aq.old state counts) delta }
+    ensures { record { receiver = receiver_at bp.new bq.new ap.new aq.new result.state result.counts; reply = reply_of result.outcome } ≡ delta_turn state (receiver_at bp.old bq.old ap.old aq.old state counts) delta }
 {
     let State::Live = state else {
         return Turned {
             state,
             counts,
-            outcome: Outcome::Refused(Refusal::Waiting),
+            outcome: Err(Refusal::Waiting),
         };
     };
     if delta.sequence <= counts.sequence {
         return Turned {
             state,
             counts,
-            outcome: Outcome::Refused(Refusal::OldFrame),
+            outcome: Err(Refusal::OldFrame),
         };
     }
     if delta.sequence - counts.sequence > 1 {
         return Turned {
             state: State::Waiting,
             counts,
-            outcome: Outcome::Refused(Refusal::Gap),
+            outcome: Err(Refusal::Gap),
         };
     }
     take_next(bp, bq, ap, aq, counts, delta)
@@ -176,18 +173,17 @@ pub fn take_line(
     counts: Counts,
     line: &[u8],
 ) -> Turned
-    ensures { record { receiver = receiver_at bp.new bq.new ap.new aq.new result.state result.counts; reply = reply_of_outcome result.outcome } ≡ taken (receiver_at bp.old bq.old ap.old aq.old state counts) line.now }
+    ensures { record { receiver = receiver_at bp.new bq.new ap.new aq.new result.state result.counts; reply = reply_of result.outcome } ≡ taken (receiver_at bp.old bq.old ap.old aq.old state counts) line.now }
 {
     if !rows::is_book(bp, bq, ap, aq, counts) {
         return Turned {
             state,
             counts,
-            outcome: Outcome::Refused(Refusal::NotARecord),
+            outcome: Err(Refusal::NotARecord),
         };
     }
-    let DeltaAnswer::Is(delta) = frames::read_delta(line) else {
-        let read = snapshot::read_snapshot(line);
-        return take_other(bp, bq, ap, aq, state, counts, read);
-    };
-    take_delta(bp, bq, ap, aq, state, counts, delta)
+    match frames::read_delta(line) {
+        Ok(delta) => take_delta(bp, bq, ap, aq, state, counts, delta),
+        Err(_) => take_other(bp, bq, ap, aq, state, counts, snapshot::read_snapshot(line)),
+    }
 }

@@ -6,22 +6,9 @@ use Rattle.types.specs.Replies.{Reply, number_of, refuse}
 use Rattle.types.specs.declared.Refusal.{Refusal}
 use Rattle.types.specs.declared.Refusal.TheVariants as R
 use Rattle.types.proofs.Booleans.{by}
-use Rattle.questions.specs.declared.Answer.{Answer}
-use Rattle.questions.specs.declared.Answer.TheVariants as A
-use Rattle.questions.specs.Asked.{Value, reply_of}
 use Rattle.receiver_questions.specs.Gate.{shut}
 
--- no value passes
-pub valued : (own : Reply Value) (a : Answer) → ((r : Refusal) → a ≡ A.Refused r → ⊥) → own ≡ shut own (reply_of a)
-unfolding shut
-valued own (A.Number x) h = refl
-valued own (A.Flag x) h = refl
-valued own (A.Level x) h = refl
-valued own (A.Quote x) h = refl
-valued own (A.Ratio x) h = refl
-valued own (A.Refused r) h = absurd (h r refl)
-
--- nor a refusal after 2
+-- no refusal after 2 passes
 pub later : (r : Refusal) → (r ≡ R.NotARecord → ⊥) → (r ≡ R.OutOfLimits → ⊥) → leb (number_of r) 2 ≡ false
 later = elim [
   | R.NotARecord ↦ λ h k. absurd (h refl)

@@ -15,7 +15,8 @@ use Rattle.asked.specs.declared.SideNumber.TheVariants.{DepthAt}
 use Rattle.questions.specs.Questions.{sequence_of, depth_at}
 use Rattle.questions.specs.declared.kinds.BookNumber.TheVariants.{Sequence}
 use Rattle.questions.specs.declared.Question.TheVariants as Q
-use Rattle.questions.specs.Asked.{number, book_ask}
+use Rattle.questions.specs.declared.Value.TheVariants as V
+use Rattle.questions.specs.Asked.{book_ask}
 use Rattle.receiver.specs.declared.State.{State}
 use Rattle.receiver.specs.declared.State.TheVariants.{Waiting, Live}
 use Rattle.receiver.specs.declared.Receiver.{Receiver}
@@ -26,7 +27,7 @@ abbrev holds_k : State → Receiver
 holds_k s = record { state = s; book = book_k 5 }
 
 -- a question: the book's answer while live, 16 while waiting
-asked : (receiver_ask (holds_k Live) (Q.Number Sequence) ≡ done (number 5)) × (receiver_ask (holds_k Waiting) (Q.Number Sequence) ≡ refused 16 [])
+asked : (receiver_ask (holds_k Live) (Q.Number Sequence) ≡ done (V.Number 5)) × (receiver_ask (holds_k Waiting) (Q.Number Sequence) ≡ refused 16 [])
 unfolding shut gate book_ask sequence_of sides_fit well_formed in_order leads every best_of is_apart
 asked = (refl, refl)
 

@@ -4,7 +4,8 @@ use Rattle.types.specs.Replies.{Reply, done, refused}
 use Rattle.listings.specs.declared.Listing.{Listing}
 use Rattle.listings.specs.Listed.{numbers_of}
 use Rattle.questions.specs.declared.Question.{Question}
-use Rattle.questions.specs.Asked.{Value, book_ask}
+use Rattle.questions.specs.declared.Value.{Value}
+use Rattle.questions.specs.Asked.{book_ask}
 use Rattle.receiver.specs.declared.State.{State}
 use Rattle.receiver.specs.declared.State.TheVariants.{Waiting, Live}
 use Rattle.receiver.specs.declared.Receiver.{Receiver}

@@ -4,134 +4,73 @@
 
 ghost use Rattle.std.specs.Prelude.{◌≡◌, length};
 ghost use Rattle.types.specs.Replies.{map_reply};
-ghost use Rattle.types.specs.Answers.{reply_of_number};
+ghost use Rattle.types.specs.Answers.{reply_of};
 ghost use Rattle.types.specs.Written.{fitted, written};
 ghost use Rattle.listings.specs.Listed.{front_of};
-ghost use Rattle.questions.specs.Asked.{reply_of};
-ghost use Rattle.receiver.specs.Lent.{lent_receiver};
+ghost use Rattle.receiver.specs.Lent.{receiver_in};
 ghost use Rattle.receiver_questions.specs.Gate.{receiver_ask, receiver_numbers};
 
 mod gate; // gate.rt: a state's gate before an answer
 
-use deltas::Counts;
 use listings::Listing;
-use questions::{Answer, Question};
+use orderbook::lent::BookRows;
+use questions::{Question, Value};
 use receiver::{Receiver, State};
-use types::NumberAnswer;
+use types::Refusal;
 
 // The answer to a question of a receiver that is lent.
-pub fn ask_at<'a>(
-    bp: &'a [u32; 128],
-    bq: &'a [u32; 128],
-    ap: &'a [u32; 128],
-    aq: &'a [u32; 128],
-    state: State,
-    counts: Counts,
-    question: Question,
-) -> Answer
-    ensures { reply_of result ≡ receiver_ask (lent_receiver bp bq ap aq state counts) question }
+pub fn ask_at(book: BookRows<'_>, state: State, question: Question) -> Result<Value, Refusal>
+    ensures { reply_of result ≡ receiver_ask (receiver_in state book.entry) question }
 {
-    gate::gated(state, questions::ask_at(bp, bq, ap, aq, counts, question))
+    gate::gated(state, questions::ask_at(book, question))
 }
 
 // The places that a listing of its book fills in a buffer of `room` places, or the refusal.
-pub fn places_at<'a>(
-    bp: &'a [u32; 128],
-    bq: &'a [u32; 128],
-    ap: &'a [u32; 128],
-    aq: &'a [u32; 128],
+pub fn places_at(
+    book: BookRows<'_>,
     state: State,
-    counts: Counts,
     listing: Listing,
     room: usize,
-) -> NumberAnswer
-    ensures { reply_of_number result ≡ map_reply length (fitted room (receiver_numbers listing (lent_receiver bp bq ap aq state counts))) }
+) -> Result<u64, Refusal>
+    ensures { reply_of result ≡ map_reply length (fitted room (receiver_numbers listing (receiver_in state book.entry))) }
 {
-    gate::gated_number(
-        state,
-        listings::places_at(bp, bq, ap, aq, counts, listing, room),
-    )
+    gate::gated(state, listings::places_at(book, listing, room))
 }
 
 // Writes a listing of its book to the front of `out`.
-pub fn write_at<'a>(
-    bp: &'a [u32; 128],
-    bq: &'a [u32; 128],
-    ap: &'a [u32; 128],
-    aq: &'a [u32; 128],
+pub fn write_at(
+    book: BookRows<'_>,
     state: State,
-    counts: Counts,
     listing: Listing,
     out: &mut [u32],
-) -> NumberAnswer
-    ensures { record { answer = reply_of_number result; memory = out.new } ≡ written (receiver_numbers listing (lent_receiver bp bq ap aq state counts)) out.old }
+) -> Result<u64, Refusal>
+    ensures { record { answer = reply_of result; memory = out.new } ≡ written (receiver_numbers listing (receiver_in state book.entry)) out.old }
 {
     let State::Live = state else {
-        return places_at(bp, bq, ap, aq, state, counts, listing, out.len());
+        return places_at(book, state, listing, out.len());
     };
-    listings::write_at(bp, bq, ap, aq, counts, listing, out)
+    listings::write_at(book, listing, out)
 }
 
 // The receiver's answer to a question.
-pub fn ask(receiver: Receiver, question: Question) -> Answer
+pub fn ask(receiver: Receiver, question: Question) -> Result<Value, Refusal>
     ensures { reply_of result ≡ receiver_ask receiver question }
 {
-    let state = receiver.state;
-    ask_at(
-        &receiver.book.bids.prices,
-        &receiver.book.bids.quantities,
-        &receiver.book.asks.prices,
-        &receiver.book.asks.quantities,
-        state,
-        Counts {
-            bids: receiver.book.bids.count,
-            asks: receiver.book.asks.count,
-            sequence: receiver.book.sequence,
-        },
-        question,
-    )
+    ask_at(receiver.book.rows(), receiver.state, question)
 }
 
 // The places that a listing of its book fills in a buffer of `room` places, or the refusal.
-pub fn places(receiver: Receiver, listing: Listing, room: usize) -> NumberAnswer
-    ensures { reply_of_number result ≡ map_reply length (fitted room (receiver_numbers listing receiver)) }
+pub fn places(receiver: Receiver, listing: Listing, room: usize) -> Result<u64, Refusal>
+    ensures { reply_of result ≡ map_reply length (fitted room (receiver_numbers listing receiver)) }
 {
-    let state = receiver.state;
-    places_at(
-        &receiver.book.bids.prices,
-        &receiver.book.bids.quantities,
-        &receiver.book.asks.prices,
-        &receiver.book.asks.quantities,
-        state,
-        Counts {
-            bids: receiver.book.bids.count,
-            asks: receiver.book.asks.count,
-            sequence: receiver.book.sequence,
-        },
-        listing,
-        room,
-    )
+    places_at(receiver.book.rows(), receiver.state, listing, room)
 }
 
 // Writes a listing of its book to the front of `out`.
-pub fn write(receiver: Receiver, listing: Listing, out: &mut [u32]) -> NumberAnswer
-    ensures { record { answer = reply_of_number result; memory = out.new } ≡ written (receiver_numbers listing receiver) out.old }
+pub fn write(receiver: Receiver, listing: Listing, out: &mut [u32]) -> Result<u64, Refusal>
+    ensures { record { answer = reply_of result; memory = out.new } ≡ written (receiver_numbers listing receiver) out.old }
 {
-    let state = receiver.state;
-    write_at(
-        &receiver.book.bids.prices,
-        &receiver.book.bids.quantities,
-        &receiver.book.asks.prices,
-        &receiver.book.asks.quantities,
-        state,
-        Counts {
-            bids: receiver.book.bids.count,
-            asks: receiver.book.asks.count,
-            sequence: receiver.book.sequence,
-        },
-        listing,
-        out,
-    )
+    write_at(receiver.book.rows(), receiver.state, listing, out)
 }
 
 // The front of `out` that a listing of its book fills: empty on a refusal.
@@ -139,9 +78,5 @@ pub fn list<'a>(receiver: Receiver, listing: Listing, out: &'a mut [u32]) -> &'a
     ensures { (result.ref_ptr ≡ out.entry.ref_ptr) × (result.now ≡ front_of (fitted (length out.old) (receiver_numbers listing receiver))) }
 {
     let answer = write(receiver, listing, out);
-    let NumberAnswer::Is(places) = answer else {
-        return &mut out[..0];
-    };
-    let k = places as usize;
-    &mut out[..k]
+    listings::front(answer, out)
 }

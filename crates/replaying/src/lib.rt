@@ -21,94 +21,64 @@ struct State {
     receiver: Receiver,
 }
 
-fn first() -> State {
-    let opened = PositionLedger::new(Amount::of(0));
-    let ledger = opened.ledger;
-    State {
-        book: OrderBook::new(),
-        kept: OrderBook::new(),
-        ledger,
-        prices: [0; 32],
-        receiver: Receiver::new(),
-    }
-}
-
-// Operations that put one part in another's place.
-fn moved(rt: &impl Print, state: State, kind: u64) -> State {
-    let book = state.book;
-    let kept = state.kept;
-    let shown = state.receiver.book;
-    let mut next = state;
-    match kind {
-        16 => next.kept = book,
-        17 => next.book = kept,
-        25 => next.receiver = Receiver::new(),
-        _ => next.book = shown,
-    }
-    output::number(rt, 0);
-    next
-}
-
-// Does what a line says, and prints the answer.
-fn done(rt: &impl Print, state: State, line: &[u8]) -> State {
-    let book = state.book;
-    let ledger = state.ledger;
-    let prices = state.prices;
-    let receiver = state.receiver;
-    let kind = fields::number(line, 0);
-    let mut next = state;
-    match kind {
-        0..=5 | 12..=15 | 18 => next.book = on_book::step(rt, book, kind, line),
-        16 | 17 | 25 | 27 => return moved(rt, state, kind),
-        21..=24 => next.book = on_feed::step(rt, book, kind, line),
-        26 => next.receiver = on_feed::take(rt, receiver, line),
-        10 => {
-            let changed = on_ledger::price(rt, prices, line);
-            next.prices = changed;
+impl State {
+    fn first() -> State {
+        State {
+            book: OrderBook::new(),
+            kept: OrderBook::new(),
+            ledger: PositionLedger::new(Amount::of(0)).ledger,
+            prices: [0; 32],
+            receiver: Receiver::new(),
         }
-        _ => next.ledger = on_ledger::step(rt, ledger, prices, kind, line),
     }
-    next
-}
 
-// Prints a line's label, then does its operation, if it has one.
-fn step(rt: &impl Print, state: State, line: &[u8]) -> State {
-    let from = fields::operation(line);
-    let mut next = state;
-    output::put(rt, &line[0..from]);
-    if from < line.len() {
-        next = done(rt, state, &line[from..]);
-    }
-    output::put(rt, b"\n");
-    next
-}
-
-// Where the line that begins at an index ends: at its line feed, or with the text.
-fn line_end(text: &[u8], at: usize) -> usize
-    requires { at ≤ length text.now }
-    ensures { (at ≤ result) × (result ≤ length text.now) }
-{
-    let mut i = at;
-    while i < text.len() {
-        if text[i] == b'\n' {
-            return i;
+    // Puts one part in another's place.
+    fn put(&mut self, kind: u64) {
+        match kind {
+            16 => self.kept = self.book,
+            17 => self.book = self.kept,
+            25 => self.receiver = Receiver::new(),
+            _ => self.book = self.receiver.book,
         }
-        i += 1;
     }
-    i
+
+    // Does what a line says, and prints the answer.
+    fn done(&mut self, rt: &impl Print, line: &[u8]) {
+        let kind = fields::number(line, 0);
+        match kind {
+            0..=5 | 12..=15 | 18 => on_book::step(rt, &mut self.book, kind, line),
+            16 | 17 | 25 | 27 => {
+                self.put(kind);
+                output::number(rt, 0);
+            }
+            21..=24 => on_feed::step(rt, &mut self.book, kind, line),
+            26 => on_feed::take(rt, &mut self.receiver, line),
+            10 => on_ledger::price(rt, &mut self.prices, line),
+            _ => on_ledger::step(rt, &mut self.ledger, &self.prices, kind, line),
+        }
+    }
+
+    // Prints a line's label, then does its operation, if it has one.
+    fn step(&mut self, rt: &impl Print, line: &[u8]) {
+        let (label, operation) = line.split_at(fields::operation(line));
+        output::put(rt, label);
+        if !operation.is_empty() {
+            self.done(rt, operation);
+        }
+        output::put(rt, b"\n");
+    }
 }
 
+// The last line may end with the text, or with a line feed.
 fn replay(rt: &impl Print, text: &[u8]) {
-    let mut state = first();
-    let mut at = 0;
-    while at < text.len() {
-        let end = line_end(text, at);
-        state = step(rt, state, &text[at..end]);
-        at = end + 1;
+    let mut state = State::first();
+    for line in text.split_inclusive(|byte| *byte == b'\n') {
+        state.step(rt, line.strip_suffix(b"\n").unwrap_or(line));
     }
 }
 
 // Reads until the buffer is full or the input ends, and answers how many bytes came. A read that fails ends the input.
+// A read brings as many bytes as it likes, so no `for` counts them, and the library's reading to the end needs a heap.
 fn read_full(input: &mut impl Read, buf: &mut [u8]) -> usize
     ensures { result ≤ length buf.new }
 {

@@ -10,10 +10,15 @@ use Rattle.levels.specs.Table.{levels, rows}
 use Rattle.levels.proofs.Tables.{levels-length}
 use Rattle.walks.specs.Walk.{sum_of, total_of}
 use Rattle.walks.proofs.Walks.{sum-take, total-rows, total-best, total_limit}
-use Rattle.sides.specs.Inner.Limits.{SideRows}
+use Rattle.levels.specs.declared.lent.SideRows.{SideRows}
+use Rattle.sides.specs.Inner.Limits.{Limited, OfBook}
 use Rattle.sides.specs.Questions.{best_total}
 
-module _ (p q : List ℕ) (n : ℕ) (w : SideRows p q n) where
+-- a side that is lent has rows of 128 places
+pub limited : {r : SideRows} → OfBook r → Limited r.prices.now r.quantities.now r.count
+limited {r} k = record { long_prices = r.long_prices; long_quantities = r.long_quantities; few = k.few; limits = k.limits }
+
+module _ (p q : List ℕ) (n : ℕ) (w : Limited p q n) where
   -- there are as many levels as are counted
   pub counted : length (levels (rows p q n)) ≡ n
   counted = levels-length (rows p q n) (record { ps = w.long_prices; qs = w.long_quantities }) w.few

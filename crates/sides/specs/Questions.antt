@@ -1,6 +1,6 @@
 -- The questions of a book, each by one definition over the levels of its sides, best first, in the numbers of docs/ANSWERS.md.
 -- `bids` and `asks` are the levels of the sides; `ls` are the levels of one side. That the record is a book is tested above, by the book.
-use Rattle.std.specs.Prelude.{ℕ, ◌+◌, ◌-◌, ◌*◌, Bool, not, cond, ◌&&◌, List, [], ◌∷◌, ◌++◌, eqb, leb, pos, ◌-ℤ◌, length, take}
+use Rattle.std.specs.Prelude.{ℕ, ◌+◌, ◌-◌, ◌*◌, Bool, not, cond, ◌&&◌, List, [], ◌∷◌, ◌++◌, eqb, leb, pos, ◌-ℤ◌, length, take, Option, Some, None}
 use Rattle.types.specs.Limits.{is_price, is_quantity, max_volume}
 use Rattle.types.specs.Replies.{Reply, done, refused, if_within, if_value}
 use Rattle.types.specs.declared.Side.{Side}
@@ -10,20 +10,18 @@ use Rattle.quotient.specs.declared.Quotient.{Quotient}
 use Rattle.quotient.specs.Over.{over, over_or_none}
 use Rattle.levels.specs.Table.{prices_of}
 use Rattle.walks.specs.Walk.{total_of, up_to, cost_of, reach_from, has, depth_of, gaps_of, least_of}
-use Rattle.sides.specs.declared.Best.{Best}
-use Rattle.sides.specs.declared.Best.TheVariants.{At, Nowhere}
 use Rattle.sides.specs.Best.{best_of, is_apart}
 
 -- best_bid, best_ask: the best level of a side
-unfoldable pub best_level : Best → Reply PriceLevel
-best_level (At l) = done l
-best_level Nowhere = refused 10 []
+unfoldable pub best_level : Option PriceLevel → Reply PriceLevel
+best_level (Some l) = done l
+best_level None = refused 10 []
 
 -- what is made of both best levels, or 10 if a side is empty
-unfoldable pub of_both : {A : Type 0} → (PriceLevel → PriceLevel → Reply A) → Best → Best → Reply A
-of_both f (At b) (At a) = f b a
-of_both f (At b) Nowhere = refused 10 []
-of_both f Nowhere a = refused 10 []
+unfoldable pub of_both : {A : Type 0} → (PriceLevel → PriceLevel → Reply A) → Option PriceLevel → Option PriceLevel → Reply A
+of_both f (Some b) (Some a) = f b a
+of_both f (Some b) None = refused 10 []
+of_both f None a = refused 10 []
 
 -- best_quote: the best bid and the best ask
 abbrev pub quote_of : PriceLevel → PriceLevel → Reply Quote

@@ -11,11 +11,12 @@ use contract.Lifetimes.{Lfts}
 use contract.Monad.{Fun, fact}
 use denote.Triple.Entry.{Args, Res}
 use denote.Triple.Clauses.{AtExit}
-use Rattle.types.specs.Answers.{reply_of_outcome}
+use Rattle.types.specs.Answers.{reply_of}
 use Rattle.types.specs.Runs.{Run}
-use Rattle.types.proofs.Once.{one_outcome}
+use Rattle.types.proofs.Once.{one_answer}
 use Rattle.position.specs.Lent.{totals_in}
 use Rattle.position.specs.declared.PositionLedger.{PositionLedger}
+use Rattle.position.specs.declared.Totals.{Totals}
 use Rattle.day.specs.Day.{day_of, day_booked}
 use Rattle.day.specs.declared.RowsDay.{RowsDay}
 use Rattle.day.proofs.Once.{one_day}
@@ -23,7 +24,7 @@ use Rattle.day.proofs as D
 use Rattle.day.proofs.rows as R
 use Rattle.day.specs.contracts.apply_fills as C
 use Rattle.single.specs.One.{One, OneWith}
-use Rattle.single.specs.Rows.{LedgerRows, ledger_of_rows, ledger_rows_in}
+use Rattle.single.specs.Rows.{ThreeRows, ledger_of_rows, ledger_rows_in}
 
 -- the day is that of the ledger handed in and the fills as they were lent
 abbrev pub Learnt : (κs : Lfts 1) → Args C.signature κs → Res C.signature κs → AtExit C.ended κs → Type 0
@@ -44,20 +45,23 @@ module _ where
   pub apply_four : One D.apply_four.Reads.Learnt
   apply_four κs a s t = one_day _
 
--- what the rows and the totals make, with the count and the outcome's reply
-abbrev made : LedgerRows → RowsDay → Run PositionLedger
-made w r = record { stands = ledger_of_rows w r.totals; taken = r.taken; reply = reply_of_outcome r.outcome }
+-- the rows and the totals of a ledger that is lent as these
+abbrev Lent : Type 0
+Lent = ThreeRows × Totals
 
--- one answer, and one content of the rows
-one-made : (d : Run PositionLedger) (v w : LedgerRows) (x y : RowsDay) → made v x ≡ d → made w y ≡ d → (x ≡ y) × (v ≡ w)
+-- what the rows and the totals make, with the count and the outcome's reply
+abbrev made : Lent → RowsDay → Run PositionLedger
+made w r = record { stands = ledger_of_rows w.0 w.1; taken = r.taken; reply = reply_of r.outcome }
+
+-- one answer, and one content of the rows and the totals
+one-made : (d : Run PositionLedger) (v w : Lent) (x y : RowsDay) → made v x ≡ d → made w y ≡ d → (x ≡ y) × (v ≡ w)
 one-made d v w x y p q =
     let e : made v x ≡ made w y = p ∙ sym q in
-    let n : x.totals ≡ y.totals = ap (λ (r : Run PositionLedger). totals_in r.stands) e in
     let k : x.taken ≡ y.taken = ap (λ (r : Run PositionLedger). r.taken) e in
-    let o = one_outcome d.reply x.outcome y.outcome (ap (λ (r : Run PositionLedger). r.reply) p) (ap (λ (r : Run PositionLedger). r.reply) q) in
-    (λ i. record { totals = n i; taken = k i; outcome = o i }, ap (λ (r : Run PositionLedger). ledger_rows_in r.stands) e)
+    let o = one_answer d.reply x.outcome y.outcome (ap (λ (r : Run PositionLedger). r.reply) p) (ap (λ (r : Run PositionLedger). r.reply) q) in
+    (λ i. record { taken = k i; outcome = o i }, ap (λ (r : Run PositionLedger). (ledger_rows_in r.stands, totals_in r.stands)) e)
 
--- fills lent as numbers: the three rows too
+-- fills lent as numbers: the three rows and the totals too
 module _ where
-  pub rows_apply_fills : OneWith R.apply_fills.Reads.Learnt {X = LedgerRows} (λ κs s. (s.0.now, s.1.0.now, s.1.1.0.now))
+  pub rows_apply_fills : OneWith R.apply_fills.Reads.Learnt {X = Lent} (λ κs s. ((s.0.now, s.1.0.now, s.1.1.0.now), s.1.1.1.0.now))
   rows_apply_fills κs a s t x y = one-made _ _ _ x y

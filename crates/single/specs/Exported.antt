@@ -19,7 +19,7 @@ use Rattle.exports.proofs.receiving as R
 use Rattle.single.specs.One.{One, OneWith, one}
 use Rattle.orderbook.specs.Lent.{counts_in}
 use Rattle.position.specs.Lent.{totals_in}
-use Rattle.single.specs.Rows.{Rows, book_of_rows, rows_in, LedgerRows, ledger_of_rows, ledger_rows_in}
+use Rattle.single.specs.Rows.{Rows, book_of_rows, rows_in, ThreeRows, ledger_of_rows, ledger_rows_in}
 
 -- an answer in numbers, and the whole of the lent memory
 one_left : (d : Left Told) (x y : Told) (m n : List ℕ) → record { answer = x; memory = m } ≡ d → record { answer = y; memory = n } ≡ d → (x ≡ y) × (m ≡ n)
@@ -49,10 +49,10 @@ one-turned d v w x y p q =
     (λ i. record { state = m i; counts = n i; told = t i }, ap (λ (h : HeldTold). rows_in h.receiver.book) e)
 
 -- a ledger that is lent as its rows, after a change
-abbrev booked : LedgerRows → TotalsTold → LedgerTold
+abbrev booked : ThreeRows → TotalsTold → LedgerTold
 booked w r = record { ledger = ledger_of_rows w r.totals; told = r.told }
 
-one-booked : (d : LedgerTold) (v w : LedgerRows) (x y : TotalsTold) → booked v x ≡ d → booked w y ≡ d → (x ≡ y) × (v ≡ w)
+one-booked : (d : LedgerTold) (v w : ThreeRows) (x y : TotalsTold) → booked v x ≡ d → booked w y ≡ d → (x ≡ y) × (v ≡ w)
 one-booked d v w x y p q =
     let e : booked v x ≡ booked w y = p ∙ sym q in
     let n : x.totals ≡ y.totals = ap (λ (l : LedgerTold). totals_in l.ledger) e in
@@ -60,10 +60,10 @@ one-booked d v w x y p q =
     (λ i. record { totals = n i; told = t i }, ap (λ (l : LedgerTold). ledger_rows_in l.ledger) e)
 
 -- and after a day's fills
-abbrev day_left : LedgerRows → DayTold → LedgerDay
+abbrev day_left : ThreeRows → DayTold → LedgerDay
 day_left w r = record { ledger = ledger_of_rows w r.totals; taken = r.taken; told = r.told }
 
-one_day_left : (d : LedgerDay) (v w : LedgerRows) (x y : DayTold) → day_left v x ≡ d → day_left w y ≡ d → (x ≡ y) × (v ≡ w)
+one_day_left : (d : LedgerDay) (v w : ThreeRows) (x y : DayTold) → day_left v x ≡ d → day_left w y ≡ d → (x ≡ y) × (v ≡ w)
 one_day_left d v w x y p q =
     let e : day_left v x ≡ day_left w y = p ∙ sym q in
     let n : x.totals ≡ y.totals = ap (λ (l : LedgerDay). totals_in l.ledger) e in
@@ -110,10 +110,10 @@ module _ where
   pub wermazul_is_ledger : One P.wermazul_is_ledger.Reads.Learnt
   wermazul_is_ledger κs a s t = one _
 
-  pub wermazul_apply_fill : OneWith P.wermazul_apply_fill.Reads.Learnt {X = LedgerRows} (λ κs s. (s.0.now, s.1.0.now, s.1.1.0.now))
+  pub wermazul_apply_fill : OneWith P.wermazul_apply_fill.Reads.Learnt {X = ThreeRows} (λ κs s. (s.0.now, s.1.0.now, s.1.1.0.now))
   wermazul_apply_fill κs a s t x y = one-booked _ _ _ x y
 
-  pub wermazul_apply_fills : OneWith P.wermazul_apply_fills.Reads.Learnt {X = LedgerRows} (λ κs s. (s.0.now, s.1.0.now, s.1.1.0.now))
+  pub wermazul_apply_fills : OneWith P.wermazul_apply_fills.Reads.Learnt {X = ThreeRows} (λ κs s. (s.0.now, s.1.0.now, s.1.1.0.now))
   wermazul_apply_fills κs a s t x y = one_day_left _ _ _ x y
 
   pub wermazul_deposit : One P.wermazul_deposit.Reads.Learnt

@@ -11,8 +11,8 @@ use contract.Lifetimes.{Lfts}
 use contract.Monad.{Fun, fact}
 use denote.Triple.Entry.{Args, Res}
 use denote.Triple.Clauses.{AtExit}
-use Rattle.types.specs.Answers.{reply_of_outcome}
-use Rattle.types.proofs.Once.{one_outcome}
+use Rattle.types.specs.Answers.{reply_of}
+use Rattle.types.proofs.Once.{one_answer}
 use Rattle.orderbook.specs.Apply.{Change, applied}
 use Rattle.orderbook.proofs.Kept.{one_change}
 use Rattle.lent.proofs as L
@@ -21,7 +21,7 @@ use Rattle.single.specs.One.{One, OneWith}
 
 -- the book as the call returns and the outcome's reply are what the delta makes of the book as it was lent
 abbrev pub Learnt : (κs : Lfts 1) → Args C.signature κs → Res C.signature κs → AtExit C.ended κs → Type 0
-Learnt κs a r s = record { book = s.0.now; reply = reply_of_outcome r } ≡ applied a.0.now a.1.0
+Learnt κs a r s = record { book = s.0.now; reply = reply_of r } ≡ applied a.0.now a.1.0
 
 -- in any model that is the call's `ensures`
 pub told :
@@ -32,7 +32,7 @@ told 𝓛 held run κs a r s = refl
 -- one outcome, and one book
 pub lent_apply_delta : OneWith Learnt (λ κs s. s.0.now)
 lent_apply_delta κs a s t x y p q =
-    (one_outcome _ x y (ap (λ (c : Change). c.reply) p) (ap (λ (c : Change). c.reply) q), ap (λ (c : Change). c.book) (p ∙ sym q))
+    (one_answer _ x y (ap (λ (c : Change). c.reply) p) (ap (λ (c : Change). c.reply) q), ap (λ (c : Change). c.book) (p ∙ sym q))
 
 -- the wrapper
 module _ where

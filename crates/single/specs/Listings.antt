@@ -1,25 +1,25 @@
 -- The calls of crate listings.
-use Rattle.types.proofs.Once.{one_number_lem}
+use Rattle.types.proofs.Once.{one_answer}
 use Rattle.listings.proofs as C
 use Rattle.listings.proofs.named as N
 use Rattle.listings.proofs.numbered as M
-use Rattle.listings.proofs.Once.{one_left, one_listing}
+use Rattle.listings.proofs.Once.{one_left}
 use Rattle.single.specs.One.{One, OneWith, OnePart, one_part}
 
 -- the places, and the listing of a number
 module _ where
   pub places_at : One C.places_at.Reads.Learnt
-  places_at κs a s t = one_number_lem _
+  places_at κs a s t = one_answer _
 
   pub places : One C.places.Reads.Learnt
-  places κs a s t = one_number_lem _
+  places κs a s t = one_answer _
 
   pub listing_of : One M.listing_of.Reads.Learnt
-  listing_of κs a s t = one_listing _
+  listing_of κs a s t = one_answer _
 
 -- the writers: the answer and the whole buffer, which is the last parameter
 module _ where
-  pub write_at : OneWith C.write_at.Reads.Learnt (λ κs s. s.1.1.1.1.1.1.0.now)
+  pub write_at : OneWith C.write_at.Reads.Learnt (λ κs s. s.1.1.0.now)
   write_at κs a s t x y = one_left _ x y _ _
 
   pub write : OneWith C.write.Reads.Learnt (λ κs s. s.1.1.0.now)

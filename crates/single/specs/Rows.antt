@@ -21,13 +21,13 @@ abbrev pub rows_in : OrderBook → Rows
 rows_in b = (b.bids.prices, b.bids.quantities, b.asks.prices, b.asks.quantities)
 
 -- a ledger's three
-abbrev pub LedgerRows : Type 0
-LedgerRows = List ℤ × List ℕ × List ℤ
+abbrev pub ThreeRows : Type 0
+ThreeRows = List ℤ × List ℕ × List ℤ
 
 -- the ledger that they make with these totals
-abbrev pub ledger_of_rows : LedgerRows → Totals → PositionLedger
+abbrev pub ledger_of_rows : ThreeRows → Totals → PositionLedger
 ledger_of_rows w t = ledger_at w.0 w.1 w.2 t
 
 -- the rows of a ledger
-abbrev pub ledger_rows_in : PositionLedger → LedgerRows
+abbrev pub ledger_rows_in : PositionLedger → ThreeRows
 ledger_rows_in l = (l.quantities, l.averages, l.realized)

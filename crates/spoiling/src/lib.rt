@@ -2,114 +2,87 @@
 // that come of it were tried, and how many of them read as a frame: none of a frame's line.
 #![tactic(auto)]
 
-ghost use Rattle.std.specs.Prelude.{◌≤◌};
-
-use lines::FrameAnswer;
+ghost use Rattle.std.specs.Prelude.{◌≤◌, ◌<◌, length};
 
 // How many lines were tried, and how many of them read as a frame.
-#[derive(Clone, Copy)]
+#[derive(Clone, Copy, Default)]
 pub struct Tries {
     pub tried: u64,
     pub frames: u64,
 }
 
 // 1 for a frame's line, else 0.
-fn is_frame(line: &[u8]) -> u64
+fn frames(line: &[u8]) -> u64
     ensures { result ≤ 1 }
 {
-    let read = lines::read_frame(line);
-    let answer = read.answer;
-    match answer {
-        FrameAnswer::Delta(_) => 1,
-        FrameAnswer::Snapshot => 1,
-        FrameAnswer::Refused(_) => 0,
-    }
+    u64::from(lines::read_frame(line).is_ok())
 }
 
-// A line with a line feed at `i`: its front up to there is a line, and so is what is behind.
-fn halves(line: &[u8], i: usize) -> Tries
-    ensures { (result.tried ≤ 2) × (result.frames ≤ 2) }
-{
-    let mut frames = 0;
-    if i < line.len() {
-        let middle = i + 1;
-        frames = is_frame(&line[0..middle]) + is_frame(&line[middle..]);
-    }
-    Tries { tried: 2, frames }
-}
-
-// The lines that a line is, with this byte at `i`.
+// The lines that a line is, with this byte at `i`: a line feed cuts it in two.
 fn read_with(line: &[u8], i: usize, byte: u8) -> Tries
+    requires { i < length line.now }
     ensures { (result.tried ≤ 2) × (result.frames ≤ 2) }
 {
-    if byte == b'\n' {
-        return halves(line, i);
+    if byte != b'\n' {
+        return Tries {
+            tried: 1,
+            frames: frames(line),
+        };
     }
+    let (front, behind) = line.split_at(i + 1);
     Tries {
-        tried: 1,
-        frames: is_frame(line),
+        tried: 2,
+        frames: frames(front) + frames(behind),
     }
 }
 
 // Another byte in the place of the digit at `i`, which then stands there again.
 fn replaced(line: &mut [u8], i: usize, byte: u8) -> Tries
+    requires { i < length line.old }
     ensures { (result.tried ≤ 2) × (result.frames ≤ 2) }
 {
-    if i < line.len() {
-        let own = line[i];
-        if byte != own {
-            line[i] = byte;
-            let tries = read_with(line, i, byte);
-            line[i] = own;
-            return tries;
-        }
+    let own = line[i];
+    if byte == own {
+        return Tries::default();
     }
-    Tries {
-        tried: 0,
-        frames: 0,
-    }
+    line[i] = byte;
+    let tries = read_with(line, i, byte);
+    line[i] = own;
+    tries
 }
 
 // Every other byte in the place of the digit at `i`.
 fn replaced_at(line: &mut [u8], i: usize) -> Tries
+    requires { i < length line.old }
     ensures { (result.tried ≤ 512) × (result.frames ≤ 512) }
 {
-    let mut tried: u64 = 0;
-    let mut frames: u64 = 0;
-    let mut byte: u32 = 0;
-    while byte < 256 {
-        let t = replaced(line, i, (byte % 256) as u8);
-        tried += t.tried;
-        frames += t.frames;
-        byte += 1;
+    let mut all = Tries::default();
+    for byte in 0..=u8::MAX {
+        let tries = replaced(line, i, byte);
+        all.tried += tries.tried;
+        all.frames += tries.frames;
     }
-    Tries { tried, frames }
+    all
 }
 
 // How many digits stand before a line's line feed: none where there are more than any frame has.
 fn digits(line: &[u8]) -> usize
-    ensures { result ≤ 4120 }
+    ensures { (result ≤ 4120) × (result ≤ length line.now) }
 {
-    let n = line.len();
-    if n > 0 {
-        if n - 1 <= types::MAX_DIGITS {
-            return n - 1;
-        }
+    let digits = line.len().saturating_sub(1);
+    if digits > types::MAX_DIGITS {
+        return 0;
     }
-    0
+    digits
 }
 
 // Each digit of a line, which ends with its line feed.
 pub fn spoilt(line: &mut [u8]) -> Tries {
-    let digits = digits(line);
-    let mut tried: u64 = 0;
-    let mut frames: u64 = 0;
-    let mut i: usize = 0;
-    while i < digits {
-        let t = replaced_at(line, i);
-        tried += t.tried;
-        frames += t.frames;
-        i += 1;
+    let mut all = Tries::default();
+    for i in 0..digits(line) {
+        let tries = replaced_at(line, i);
+        all.tried += tries.tried;
+        all.frames += tries.frames;
     }
-    Tries { tried, frames }
+    all
 }

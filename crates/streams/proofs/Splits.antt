@@ -1,16 +1,17 @@
 -- Laws of the lines of a stream: where the first one ends, and what bytes before it make of it.
 use Prim.Native.Nat.{ℕ, zero, suc, ◌+◌, ◌<◌, ◌≤◌}
 use mathlib.Core.Bool.{Bool, true, false, cond}
-use mathlib.Core.Path.{◌≡◌, refl, sym, ap, ◌∙◌}
+use mathlib.Core.Path.{◌≡◌, refl, ap, ◌∙◌}
 use mathlib.Core.List.{List, [], ◌∷◌, ◌++◌}
 use native.Mathlib.Omega.{arith}
-use native.Mathlib.Numerals.{add-one}
-use borrow.Author.Tests.{eq-eqb, ne_eqb}
-use lib.Dec.{eqb}
-use lib.ListN.{length, get_or, set, take, drop, drop_of_length-le}
-use lib.Seq.{drop-cons}
+use borrow.Author.Tests.{lt-ltb, le-ltb, ltb-true, ltb-false}
+use lib.Dec.{eqb, ltb}
+use lib.ListN.{length, set, take, drop}
 use Rattle.wire.specs.Wire.{line_feed}
 use Rattle.types.specs.Bytes.{onto}
+use Rattle.types.proofs.Booleans.{by}
+use Rattle.std.proofs.Common.{Option, Some, None}
+use Rattle.std.specs.List.{position, position_or_len}
 use Rattle.streams.specs.Streams.{lines, line_end}
 use Rattle.streams.specs.Reading.{CutsFirst}
 
@@ -70,17 +71,26 @@ first-line (c ∷ d ∷ ds) h = go (eqb c line_feed) (first-line (d ∷ ds) (ome
     go true e = refl
     go false e = ap (onto c) e
 
-module _ (s : List ℕ) (i : ℕ) (h : i < length s) where
-  -- the line goes on past a byte that is no line feed
-  pub end_on : (get_or s i 0 ≡ line_feed → ⊥) → i + line_end (drop i s) ≡ i + 1 + line_end (drop (i + 1) s)
-  end_on e =
-      let n : i + suc (line_end (drop (suc i) s)) ≡ i + 1 + line_end (drop (suc i) s) = omega arith in
-      rw (drop-cons s i 0 h, ne_eqb (get_or s i 0) line_feed e) (n ∙ ap (λ (m : ℕ). i + 1 + line_end (drop m s)) (sym (add-one i)))
+-- one place on from its line feed, or all where there is none
+abbrev pub end_of : Option ℕ → ℕ → ℕ
+end_of (Some i) n = i + 1
+end_of None n = n
 
-  -- and ends at the line feed
-  pub end_here : get_or s i 0 ≡ line_feed → i + line_end (drop i s) ≡ i + 1
-  end_here e = rw (drop-cons s i 0 h, eq-eqb (get_or s i 0) line_feed e)
-
--- or with the stream
-pub end_last : (s : List ℕ) (i : ℕ) → length s ≤ i → i + line_end (drop i s) ≡ i
-end_last s i h = rw (drop_of_length-le s h) (omega arith)
+pub end_found : (s : List ℕ) → end_of (position (λ c. eqb c line_feed) s) (length s) ≡ line_end s
+end_found [] = refl
+end_found (c ∷ cs) =
+    let p = position_or_len (λ x. eqb x line_feed) cs in
+    let n = length cs in
+    let rest = end_found cs in
+    by (eqb c line_feed)
+    (λ e. let h : 0 < suc n = omega arith in rw (e, lt-ltb 0 (suc n) h) refl)
+    (λ e.
+    by (ltb p n)
+    (λ f.
+    let h : 1 + p < suc n = omega (arith, ltb-true p n f) in
+    let t : p + 1 ≡ line_end cs = rw f at rest in
+    rw (e, lt-ltb (1 + p) (suc n) h) (omega arith))
+    (λ f.
+    let h : suc n ≤ 1 + p = omega (arith, ltb-false p n f) in
+    let t : n ≡ line_end cs = rw f at rest in
+    rw (e, le-ltb (1 + p) (suc n) h) (omega arith)))

@@ -1,28 +1,37 @@
-// Each kind of answer as a Told.
-ghost use Rattle.std.specs.Prelude.{◌≡◌, [], ◌∷◌, pos};
+// Each kind of answer as a Told: what it carries stands here once for each kind, and one function tells any of them, or the refusal.
+ghost use Rattle.std.specs.Prelude.{◌≡◌, [], ◌∷◌, List, ℤ, pos};
 ghost use Rattle.types.specs.Replies.{number_of, values_of};
-ghost use Rattle.types.specs.Answers.{reply_of_outcome, reply_of_number, reply_of_flag, reply_of_level, reply_of_quote, reply_of_amount};
-ghost use Rattle.quotient.specs.Over.{reply_of_ratio};
+ghost use Rattle.types.specs.Answers.{reply_of};
 ghost use Rattle.told.specs.Numbers.{whole, told, tell, nothing, one_number, yes_or_no, one_level, both_levels, one_amount, one_ratio};
 
 use crate::{Told, Whole};
 use amount::Amount;
-use quotient::Ratio;
-use types::{AmountAnswer, FlagAnswer, LevelAnswer, NumberAnswer, Outcome, QuoteAnswer, Refusal};
+use quotient::Quotient;
+use types::{PriceLevel, Quote, Refusal};
 
-impl Whole {
-    fn of(n: u64) -> Whole
-        ensures { result ≡ whole (pos n) }
-    {
+// An answer that can be told: the values that it carries.
+pub trait Tells {
+    ghost values: { Self → List ℤ };
+
+    fn told(self) -> Told
+        ensures { result ≡ told 0 (values self) };
+}
+
+impl From<u64> for Whole {
+    ghost from_gives = { λ n w. w ≡ whole (pos n) };
+
+    fn from(n: u64) -> Whole {
         Whole {
             size: n,
             negative: false,
         }
     }
+}
 
-    fn of_amount(amount: Amount) -> Whole
-        ensures { result ≡ whole amount.value }
-    {
+impl From<Amount> for Whole {
+    ghost from_gives = { λ amount w. w ≡ whole amount.value };
+
+    fn from(amount: Amount) -> Whole {
         Whole {
             size: amount.size(),
             negative: amount.is_negative(),
@@ -34,7 +43,7 @@ impl Told {
     fn with(number: u64, count: u64, first: Whole, second: Whole) -> Told
         ensures { result ≡ record { number = number; count = count; first = first; second = second; third = whole (pos 0); fourth = whole (pos 0) } }
     {
-        let zero = Whole::of(0);
+        let zero = Whole::from(0u64);
         Told {
             number,
             count,
@@ -48,24 +57,36 @@ impl Told {
     fn bare(number: u64) -> Told
         ensures { result ≡ told number [] }
     {
-        Told::with(number, 0, Whole::of(0), Whole::of(0))
+        Told::with(number, 0, Whole::from(0u64), Whole::from(0u64))
     }
 
     fn one(number: u64, first: u64) -> Told
         ensures { result ≡ told number (pos first ∷ []) }
     {
-        Told::with(number, 1, Whole::of(first), Whole::of(0))
+        Told::with(number, 1, Whole::from(first), Whole::from(0u64))
     }
 
     fn two(number: u64, first: u64, second: u64) -> Told
         ensures { result ≡ told number (pos first ∷ pos second ∷ []) }
     {
-        Told::with(number, 2, Whole::of(first), Whole::of(second))
+        Told::with(number, 2, Whole::from(first), Whole::from(second))
     }
 
-    pub fn of_refusal(why: Refusal) -> Told
-        ensures { result ≡ told (number_of why) (values_of why) }
+    // Any answer, or why there is none.
+    pub fn of<T: Tells>(answer: Result<T, Refusal>) -> Told
+        ensures { result ≡ tell T.values (reply_of answer) }
     {
+        match answer {
+            Ok(x) => x.told(),
+            Err(why) => Told::from(why),
+        }
+    }
+}
+
+impl From<Refusal> for Told {
+    ghost from_gives = { λ why t. t ≡ told (number_of why) (values_of why) };
+
+    fn from(why: Refusal) -> Told {
         match why {
             Refusal::NotARecord => Told::bare(1),
             Refusal::OutOfLimits => Told::bare(2),
@@ -81,8 +102,8 @@ impl Told {
             Refusal::InsufficientFunds { need, have } => Told::with(
                 8,
                 2,
-                Whole::of_amount(need),
-                Whole::of_amount(have),
+                Whole::from(need),
+                Whole::from(have),
             ),
             Refusal::PastLimit => Told::bare(9),
             Refusal::NoValue => Told::bare(10),
@@ -95,83 +116,77 @@ impl Told {
             Refusal::RefusedDelta => Told::bare(17),
         }
     }
+}
 
-    pub fn of_outcome(outcome: Outcome) -> Told
-        ensures { result ≡ tell nothing (reply_of_outcome outcome) }
-    {
-        match outcome {
-            Outcome::Done => Told::bare(0),
-            Outcome::Refused(why) => Told::of_refusal(why),
+// A change carries no value: the record stands beside it.
+impl Tells for () {
+    ghost values = { nothing };
+
+    fn told(self) -> Told {
+        Told::bare(0)
+    }
+}
+
+impl Tells for u64 {
+    ghost values = { one_number };
+
+    fn told(self) -> Told {
+        Told::one(0, self)
+    }
+}
+
+// 1 for yes, 0 for no.
+impl Tells for bool {
+    ghost values = { yes_or_no };
+
+    fn told(self) -> Told {
+        Told::one(0, self as u64)
+    }
+}
+
+// The price, then the quantity.
+impl Tells for PriceLevel {
+    ghost values = { one_level };
+
+    fn told(self) -> Told {
+        Told::two(0, self.price as u64, self.quantity as u64)
+    }
+}
+
+// The best bid's price and quantity, then the best ask's.
+impl Tells for Quote {
+    ghost values = { both_levels };
+
+    fn told(self) -> Told {
+        Told {
+            number: 0,
+            count: 4,
+            first: Whole::from(self.bid.price as u64),
+            second: Whole::from(self.bid.quantity as u64),
+            third: Whole::from(self.ask.price as u64),
+            fourth: Whole::from(self.ask.quantity as u64),
         }
     }
+}
 
-    pub fn of_number(answer: NumberAnswer) -> Told
-        ensures { result ≡ tell one_number (reply_of_number answer) }
-    {
-        match answer {
-            NumberAnswer::Is(x) => Told::one(0, x),
-            NumberAnswer::Refused(why) => Told::of_refusal(why),
-        }
+impl Tells for Amount {
+    ghost values = { one_amount };
+
+    fn told(self) -> Told {
+        Told::with(0, 1, Whole::from(self), Whole::from(0u64))
     }
+}
 
-    // 1 for yes, 0 for no.
-    pub fn of_flag(answer: FlagAnswer) -> Told
-        ensures { result ≡ tell yes_or_no (reply_of_flag answer) }
-    {
-        match answer {
-            FlagAnswer::Is(x) => Told::one(0, x as u64),
-            FlagAnswer::Refused(why) => Told::of_refusal(why),
-        }
-    }
+// The numerator, then the denominator.
+impl Tells for Quotient {
+    ghost values = { one_ratio };
 
-    // The price, then the quantity.
-    pub fn of_level(answer: LevelAnswer) -> Told
-        ensures { result ≡ tell one_level (reply_of_level answer) }
-    {
-        match answer {
-            LevelAnswer::Is(x) => Told::two(0, x.price as u64, x.quantity as u64),
-            LevelAnswer::Refused(why) => Told::of_refusal(why),
-        }
-    }
-
-    // The best bid's price and quantity, then the best ask's.
-    pub fn of_quote(answer: QuoteAnswer) -> Told
-        ensures { result ≡ tell both_levels (reply_of_quote answer) }
-    {
-        match answer {
-            QuoteAnswer::Is(x) => Told {
-                number: 0,
-                count: 4,
-                first: Whole::of(x.bid.price as u64),
-                second: Whole::of(x.bid.quantity as u64),
-                third: Whole::of(x.ask.price as u64),
-                fourth: Whole::of(x.ask.quantity as u64),
-            },
-            QuoteAnswer::Refused(why) => Told::of_refusal(why),
-        }
-    }
-
-    pub fn of_amount(answer: AmountAnswer) -> Told
-        ensures { result ≡ tell one_amount (reply_of_amount answer) }
-    {
-        match answer {
-            AmountAnswer::Is(x) => Told::with(0, 1, Whole::of_amount(x), Whole::of(0)),
-            AmountAnswer::Refused(why) => Told::of_refusal(why),
-        }
-    }
-
-    // The numerator, then the denominator.
-    pub fn of_ratio(answer: Ratio) -> Told
-        ensures { result ≡ tell one_ratio (reply_of_ratio answer) }
-    {
-        match answer {
-            Ratio::Is(x) => Told::with(
-                0,
-                2,
-                Whole::of_amount(x.numerator),
-                Whole::of(x.denominator),
-            ),
-            Ratio::Refused(why) => Told::of_refusal(why),
-        }
+    fn told(self) -> Told {
+        Told::with(
+            0,
+            2,
+            Whole::from(self.numerator),
+            Whole::from(self.denominator),
+        )
     }
 }

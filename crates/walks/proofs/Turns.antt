@@ -2,10 +2,12 @@
 use Prim.Native.Nat.{ℕ, ◌+◌, ◌-◌, ◌*◌, ◌≤◌, ◌<◌, min}
 use native.Mathlib.Nat.{eq-or-lt_of_le}
 use native.Mathlib.Omega.{arith}
+use native.Mathlib.Numerals.{add-one}
 use mathlib.Core.Path.{◌≡◌}
 use mathlib.Core.Logic.{⊎_elim}
 use mathlib.Core.List.{List, [], ◌∷◌}
-use lib.ListN.{length, take, drop, get_or}
+use lib.ListN.{length, take, drop, get_or, drop_of_length-le}
+use lib.Seq.{drop-cons}
 use borrow.Author.Tests.{le-leb, lt-leb}
 use Rattle.types.specs.declared.PriceLevel.{PriceLevel}
 use Rattle.levels.specs.Table.{level, levels, rows}
@@ -14,15 +16,17 @@ use Rattle.levels.proofs.Rows.{run_cons, run_end}
 use Rattle.levels.proofs.Tables.{Sized, levels_cons, levels_end}
 
 -- one row
+module _ (xs : List ℕ) (i : ℕ) where
+  pub sum_turn : i < length xs → sum_of (drop i xs) ≡ get_or xs i 0 + sum_of (drop (i + 1) xs)
+  unfolding sum_of
+  sum_turn h = rw (drop-cons xs i 0, add-one)
+
+  pub sum_end : length xs ≤ i → sum_of (drop i xs) ≡ 0
+  unfolding sum_of
+  sum_end h = rw (drop_of_length-le xs h)
+
+-- the first n places of one
 module _ (a : List ℕ) (n i : ℕ) (fits : n ≤ length a) where
-  pub sum-turn : i < n → sum_of (drop i (take n a)) ≡ get_or a i 0 + sum_of (drop (i + 1) (take n a))
-  unfolding sum_of
-  sum-turn h = rw (run_cons a n fits i h)
-
-  pub sum_end : n ≤ i → sum_of (drop i (take n a)) ≡ 0
-  unfolding sum_of
-  sum_end h = rw (run_end a n fits i h)
-
   gaps_turn : i + 1 < n → gaps_of (drop i (take n a)) ≡ distance (get_or a i 0) (get_or a (i + 1) 0) ∷ gaps_of (drop (i + 1) (take n a))
   unfolding gaps_of gaps_from
   gaps_turn h = rw (run_cons a n fits i (omega arith), run_cons a n fits (i + 1) h)
@@ -63,9 +67,9 @@ module _ (p q : List ℕ) (n : ℕ) (w : Lent p q n) (i : ℕ) where
 
 -- what a turn does to each answer
 module _ (p q : List ℕ) (n : ℕ) (w : Lent p q n) (i : ℕ) where
-  pub total-turn : i < n → total_of (rest p q n i) ≡ get_or q i 0 + total_of (rest p q n (i + 1))
+  pub total_turn : i < n → total_of (rest p q n i) ≡ get_or q i 0 + total_of (rest p q n (i + 1))
   unfolding sum_of
-  total-turn h = rw (level-turn p q n w i h)
+  total_turn h = rw (level-turn p q n w i h)
 
   pub total_end : n ≤ i → total_of (rest p q n i) ≡ 0
   unfolding sum_of

@@ -1,10 +1,9 @@
 -- What is asked of book K's sides and of a full side, by computation.
-use Rattle.std.specs.Prelude.{◌≡◌, refl, true, false, [], ◌∷◌, ◌++◌}
+use Rattle.std.specs.Prelude.{◌≡◌, refl, true, false, Some, None, [], ◌∷◌, ◌++◌}
 use Rattle.types.specs.Replies.{done, refused}
 use Rattle.types.specs.declared.Side.TheVariants.{Bid, Ask}
 use Rattle.levels.specs.Table.{level, prices_of}
 use Rattle.levels.specs.Examples.{bids, asks, falling, full}
-use Rattle.walks.specs.declared.Filling.TheVariants.{Cost, Short}
 use Rattle.walks.specs.Walk.{sum_of, total_of, up_to, cost_of, fill_of, reach_from, has, depth_of, gaps_from, gaps_of, least_from, least_of}
 
 -- lots in all
@@ -23,8 +22,8 @@ pub costs :
     (cost_of 7 asks ≡ 713) ×
     (cost_of 15 bids ≡ 1480) ×
     (cost_of 0 asks ≡ 0) ×
-    (fill_of 15 bids ≡ Cost 1480) ×
-    (fill_of 16 bids ≡ Short)
+    (fill_of 15 bids ≡ Some 1480) ×
+    (fill_of 16 bids ≡ None)
 unfolding bids asks sum_of cost_of
 costs = (refl, refl, refl, refl, refl, refl)
 

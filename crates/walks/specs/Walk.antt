@@ -1,10 +1,8 @@
 -- What is asked of a side's levels, best first: quantities, costs, prices reached, gaps.
-use Rattle.std.specs.Prelude.{ℕ, ◌+◌, ◌-◌, ◌*◌, min, Bool, true, false, cond, List, [], ◌∷◌, leb, eqb}
+use Rattle.std.specs.Prelude.{ℕ, ◌+◌, ◌-◌, ◌*◌, min, Bool, true, false, cond, Option, Some, None, List, [], ◌∷◌, leb, eqb}
 use Rattle.types.specs.Replies.{Reply, done, refused}
 use Rattle.types.specs.declared.Side.{Side}
 use Rattle.types.specs.declared.PriceLevel.{PriceLevel}
-use Rattle.walks.specs.declared.Filling.{Filling}
-use Rattle.walks.specs.declared.Filling.TheVariants.{Cost, Short}
 use Rattle.levels.specs.Order.{ahead_of}
 use Rattle.levels.specs.Table.{quantities_of}
 
@@ -28,8 +26,8 @@ cost_of target [] = 0
 cost_of target (l ∷ ls) = cond (leb target l.quantity) (l.price * target) (l.price * l.quantity + cost_of (target - l.quantity) ls)
 
 -- the cost of filling the target best first, or that the levels hold too little
-abbrev pub fill_of : ℕ → List PriceLevel → Filling
-fill_of target ls = cond (leb target (total_of ls)) (Cost (cost_of target ls)) Short
+abbrev pub fill_of : ℕ → List PriceLevel → Option ℕ
+fill_of target ls = cond (leb target (total_of ls)) (Some (cost_of target ls)) None
 
 -- the price of the first level at which the running total reaches the target, else the last level's; `last` if there is none
 unfoldable pub reach_from : ℕ → ℕ → List PriceLevel → ℕ

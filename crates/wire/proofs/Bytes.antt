@@ -5,9 +5,8 @@ use mathlib.Core.List.{List, [], ◌∷◌, ◌++◌, append_assoc}
 use native.Mathlib.Omega.{arith}
 use native.Mathlib.Nat.{pow-suc, add-suc, suc-add, add-zero, pow-le-pow_right, lt_of_lt_of_le}
 use native.Mathlib.Decide.{dec_lt}
-use native.Mathlib.Numerals.{add-one}
 use lib.ListN.{length, get_or, take, drop, length-take}
-use lib.Seq.{take-suc}
+use Rattle.std.proofs.lemmas.List.Sums.{fold_more}
 use Rattle.wire.specs.Wire.{digit, value, digits_of, be, spelt, field, byte_sum, check_byte}
 
 -- each is a byte
@@ -93,13 +92,9 @@ spelt-be (suc k) n after h =
 
 -- ── the number that digits spell ──
 
-spelt_snoc : (xs : List ℕ) (m c : ℕ) → spelt m (xs ++ c ∷ []) ≡ spelt m xs * 16 + value c
-spelt_snoc [] m c = refl
-spelt_snoc (x ∷ xs) m c = spelt_snoc xs (m * 16 + value x) c
-
 -- one digit more
 pub spelt_more : (l : List ℕ) (i : ℕ) → i < length l → spelt 0 (take (i + 1) l) ≡ spelt 0 (take i l) * 16 + value (get_or l i 0)
-spelt_more l i h = rw (add-one, take-suc l i 0) (spelt_snoc (take i l) 0 (get_or l i 0))
+spelt_more l i h = fold_more (λ m c. m * 16 + value c) 0 l i 0 h
 
 spelt_lt : (l : List ℕ) (m j : ℕ) → m < 16 ^ j → spelt m l < 16 ^ (j + length l)
 unfolding value

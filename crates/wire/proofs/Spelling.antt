@@ -5,13 +5,14 @@ use mathlib.Core.List.{List, [], ◌∷◌, ◌++◌}
 use native.Mathlib.Omega.{arith}
 use native.Mathlib.Nat.{pow-suc, pow-le-pow_right, lt_of_lt_of_le}
 use native.Mathlib.Numerals.{add-one}
-use lib.Bits.{bit_or, bit_xor, xor_self}
+use Rattle.std.specs.List.{sum}
+use Rattle.std.proofs.lemmas.List.Sums.{fold_more, sum_by-cons}
+use lib.Bits.{bit_or, bit_xor, or_add_and, xor_add_and, and_le_l, and_le_r, xor_self}
 use lib.ListN.{length, get_or, set, take, drop}
-use lib.Seq.{take-suc, take-add, drop-cons, drop-drop, take_at, drop_at, length-take-le, append_snoc}
+use lib.Seq.{take-add, drop-cons, drop-drop, take_at, drop_at, length-take-le, append_snoc}
 use Rattle.wire.specs.Wire.{digit, value, digits_of, byte_sum, spelt, field}
 use Rattle.wire.specs.Inner.Spelling.{spell, joined}
-use Rattle.wire.proofs.Alike.{xor_none, or_none_left, or_none_right}
-use Rattle.wire.proofs.Bytes.{digits_append, length_digits, sum_append}
+use Rattle.wire.proofs.Bytes.{digits_append, length_digits}
 use Rattle.wire.proofs.Places.{set_after}
 
 -- ── bytes ──
@@ -54,6 +55,16 @@ spell_step i x y l out₀ out h k e ex ey =
     ∙ ap (λ (m : List ℕ). m ++ drop (i + 1) out₀) (sym (spell_more l i h))
 
 -- ── whether the digits are the bytes' own ──
+
+-- numbers that differ in no bit are the same
+xor_none : (a b : ℕ) → bit_xor a b ≡ 0 → a ≡ b
+xor_none a b e = omega (arith, xor_add_and a b, and_le_l a b, and_le_r a b)
+
+or_none_left : (a b : ℕ) → bit_or a b ≡ 0 → a ≡ 0
+or_none_left a b e = omega (arith, or_add_and a b, and_le_l a b, and_le_r a b)
+
+or_none_right : (a b : ℕ) → bit_or a b ≡ 0 → b ≡ 0
+or_none_right a b e = omega (arith, or_add_and a b, and_le_l a b, and_le_r a b)
 
 pub value_small : (c : ℕ) → value c < 16
 unfolding value
@@ -101,13 +112,9 @@ own_turn l bits i dx dy w h ex ey =
 
 -- ── the number of bytes ──
 
-joined_snoc : (xs : List ℕ) (m b : ℕ) → joined m (xs ++ b ∷ []) ≡ joined m xs * 256 + b
-joined_snoc [] m b = refl
-joined_snoc (x ∷ xs) m b = joined_snoc xs (m * 256 + x) b
-
 -- one byte more
 pub joined_more : (l : List ℕ) (i : ℕ) → i < length l → joined 0 (take (i + 1) l) ≡ joined 0 (take i l) * 256 + get_or l i 0
-joined_more l i h = rw (add-one, take-suc l i 0) (joined_snoc (take i l) 0 (get_or l i 0))
+joined_more l i h = fold_more (λ m b. m * 256 + b) 0 l i 0 h
 
 pub byte_more : (n i b : ℕ) → n < 256 ^ i → b < 256 → n * 256 + b < 256 ^ (i + 1)
 byte_more n i b h k = rw (add-one, pow-suc) (omega arith)
@@ -118,5 +125,6 @@ byte_room n i h k = lt_of_lt_of_le h (pow-le-pow_right {n = 256} (omega arith) {
 
 -- ── the sum of bytes ──
 
-pub sum_more : (l : List ℕ) (i : ℕ) → i < length l → byte_sum (take (i + 1) l) ≡ byte_sum (take i l) + get_or l i 0
-sum_more l i h = rw (add-one, take-suc l i 0, sum_append (take i l) (get_or l i 0 ∷ [])) (omega arith)
+pub sum_bytes : (l : List ℕ) → sum l ≡ byte_sum l
+sum_bytes [] = refl
+sum_bytes (x ∷ xs) = sum_by-cons (λ y. y) x xs ∙ ap (λ s. x + s) (sum_bytes xs)

@@ -1,5 +1,5 @@
 -- Bytes as hexadecimal digits, numbers as bytes, and the line that bytes make.
-use Rattle.std.specs.Prelude.{ℕ, zero, suc, ◌+◌, ◌*◌, ◌-◌, ◌/◌, ◌%◌, ◌≤◌, ◌≡◌, List, [], ◌∷◌, ◌++◌, length, take, drop}
+use Rattle.std.specs.Prelude.{ℕ, zero, suc, ◌+◌, ◌*◌, ◌-◌, ◌/◌, ◌%◌, ◌≤◌, ◌≡◌, List, [], ◌∷◌, ◌++◌, length, take, drop, fold}
 
 -- the line feed
 abbrev pub line_feed : ℕ
@@ -38,8 +38,7 @@ value c = (c + 9 * (c / 64)) % 16
 
 -- the number that digits spell, after digits that spell n
 abbrev pub spelt : ℕ → List ℕ → ℕ
-spelt n [] = n
-spelt n (c ∷ cs) = spelt (n * 16 + value c) cs
+spelt n cs = fold (λ m c. m * 16 + value c) n cs
 
 -- the number in the k bytes from byte `at` on
 abbrev pub field : ℕ → ℕ → List ℕ → ℕ

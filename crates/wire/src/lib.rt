@@ -27,13 +27,9 @@ pub fn field(line: &[u8], at: usize, k: usize) -> u64
     requires { (2 * (at + k) ≤ length line.now) × (k ≤ 8) }
     ensures { result ≡ field_of at k line.now }
 {
-    let from = 2 * at;
-    let digits = 2 * k;
     let mut n: u64 = 0;
-    let mut i = 0;
-    while i < digits {
-        n = n * 16 + value(line[from + i]) as u64;
-        i += 1;
+    for digit in &line[2 * at..2 * (at + k)] {
+        n = n * 16 + value(*digit) as u64;
     }
     n
 }
@@ -46,29 +42,25 @@ pub fn read_bytes(line: &[u8], n: usize, out: &mut [u8]) -> bool
     ensures { Spelt n line.now out.old out.new result }
 {
     let mut bits: u8 = 0;
-    let mut i = 0;
-    while i < n {
+    for i in 0..n {
         let a = line[2 * i];
         let b = line[2 * i + 1];
         let x = value(a);
         let y = value(b);
         out[i] = x * 16 + y;
         bits |= (a ^ digit(x)) | (b ^ digit(y));
-        i += 1;
     }
     bits == 0
 }
 
-// The number in the k bytes from place `at` on.
+// The number in the k bytes from place `at` on. One function for this and `field` would take the base as a value, and then no bound of its sum follows.
 pub fn number(bytes: &[u8], at: usize, k: usize) -> u64
     requires { (at + k ≤ length bytes.now) × (k ≤ 8) }
     ensures { (result ≡ joined 0 (take k (drop at bytes.now))) × (result < 256 ^ k) }
 {
     let mut n: u64 = 0;
-    let mut i = 0;
-    while i < k {
-        n = n * 256 + bytes[at + i] as u64;
-        i += 1;
+    for byte in &bytes[at..at + k] {
+        n = n * 256 + *byte as u64;
     }
     n
 }
@@ -78,13 +70,7 @@ pub fn sum(bytes: &[u8]) -> u64
     requires { length bytes.now ≤ 4096 }
     ensures { result ≡ byte_sum bytes.now }
 {
-    let mut sum: u64 = 0;
-    let mut i = 0;
-    while i < bytes.len() {
-        sum += bytes[i] as u64;
-        i += 1;
-    }
-    sum
+    bytes.iter().map(|byte| *byte as u64).sum()
 }
 
 // The number in the 4 bytes from byte `at` on.
@@ -100,10 +86,8 @@ pub fn read_column(line: &[u8], at: usize, n: usize, row: &mut [u32])
     requires { (2 * (at + 8 * n) ≤ length line.now + 8) × (n ≤ length row.old) × (n ≤ 128) × (at ≤ 4096) }
     ensures { row.new ≡ column n (drop (2 * at) line.now) ++ drop n row.old }
 {
-    let mut i = 0;
-    while i < n {
+    for i in 0..n {
         row[i] = word(line, at + 8 * i);
-        i += 1;
     }
 }
 
@@ -112,22 +96,21 @@ pub fn put(out: &mut [u8], at: usize, k: usize, n: u64) -> u64
     requires { (2 * (at + k) ≤ length out.old) × (k ≤ 8) }
     ensures { Part (be k n []) at out.old out.new result }
 {
-    let mut j = k;
     let mut rest = n;
     let mut sum: u64 = 0;
-    while 0 < j {
-        j -= 1;
+    for j in (0..k).rev() {
         let b = rest % 256;
         let o = 2 * (at + j);
         out[o] = digit((b / 16) as u8);
         out[o + 1] = digit((b % 16) as u8);
         sum += b;
-        rest = rest / 256;
+        rest /= 256;
     }
     sum
 }
 
-// Writes three numbers, one after the other, and returns the sum of their bytes.
+// Writes three numbers, one after the other, and returns the sum of their bytes. Over a slice of numbers it is a loop that proves, but then the
+// writer of a side's levels is not unrolled alike: a full snapshot is read in 7.0 microseconds, and in 6.2 by this.
 pub fn put3(
     out: &mut [u8],
     at: usize,
@@ -156,20 +139,9 @@ pub fn finish(out: &mut [u8], at: usize, sum: u64)
     out[2 * at + 2] = 10;
 }
 
-// Whether two slices hold the same bytes. The bits in which they differ are laid over each other, with no way out of the loop, so that it takes
-// many bytes a turn.
+// Whether two slices hold the same bytes.
 pub fn same(a: &[u8], b: &[u8]) -> bool
     ensures { (result ≡ true → a.now ≡ b.now) × (a.now ≡ b.now → result ≡ true) }
 {
-    if a.len() != b.len() {
-        return false;
-    }
-    let n = a.len();
-    let mut bits: u8 = 0;
-    let mut i = 0;
-    while i < n {
-        bits |= a[i] ^ b[i];
-        i += 1;
-    }
-    bits == 0
+    a == b
 }

@@ -1,11 +1,10 @@
 -- The questions of one kind, each by its clause: the definition that sides/specs/Questions.antt gives it.
-use Rattle.std.specs.Prelude.{ℕ, List, length}
+use Rattle.std.specs.Prelude.{ℕ, List, length, Option}
 use Rattle.types.specs.Replies.{Reply, done, map_reply}
 use Rattle.types.specs.declared.Side.{Side}
 use Rattle.types.specs.declared.PriceLevel.{PriceLevel}
 use Rattle.quotient.specs.declared.Quotient.{Quotient}
 use Rattle.walks.specs.Walk.{total_of}
-use Rattle.sides.specs.declared.Best.{Best}
 use Rattle.asked.specs.declared.SideNumber.{SideNumber}
 use Rattle.asked.specs.declared.SideNumber.TheVariants as N
 use Rattle.asked.specs.declared.TopRatio.{TopRatio}
@@ -29,7 +28,7 @@ side_number s (N.CumulativeQuantity k) ls = done (best_total k ls)
 side_number s (N.PriceAtVolume target) ls = volume_price_of target ls
 
 -- a ratio of both best levels
-abbrev pub top_ratio : TopRatio → Best → Best → Reply Quotient
+abbrev pub top_ratio : TopRatio → Option PriceLevel → Option PriceLevel → Reply Quotient
 top_ratio T.MidPrice bid ask = of_both mid_of bid ask
 top_ratio T.SpreadPct bid ask = of_both (spread_share_of 200) bid ask
 top_ratio T.SpreadBps bid ask = of_both (spread_share_of 20000) bid ask

@@ -1,6 +1,6 @@
 -- What a change does to a side's rows, one row at a time. proofs/Edits.antt has the laws that an edit makes Set's and Remove's list of
 -- levels.
-use Rattle.std.specs.Prelude.{ℕ, ◌+◌, ◌-◌, ◌≤◌, ◌<◌, cond, List, ◌∷◌, ◌++◌, ltb, take, drop, set}
+use Rattle.std.specs.Prelude.{ℕ, ◌+◌, ◌-◌, ◌≤◌, ◌<◌, cond, List, ◌∷◌, ◌++◌, ltb, take, drop, set, Result, Ok, Err}
 use Rattle.types.specs.Limits.{max_levels}
 use Rattle.types.specs.declared.PriceLevel.{PriceLevel}
 use Rattle.types.specs.declared.Refusal.TheVariants as R
@@ -10,8 +10,7 @@ use Rattle.levels.specs.declared.Place.TheVariants.{At, Before}
 use Rattle.levels.specs.Table.{rows}
 use Rattle.changes.specs.declared.Edit.{Edit}
 use Rattle.changes.specs.declared.Edit.TheVariants.{Keep, Over, In, Out}
-use Rattle.changes.specs.declared.Step.{Step}
-use Rattle.changes.specs.declared.Step.TheVariants.{Do, Refuse}
+use Rattle.types.specs.declared.Refusal.{Refusal}
 
 -- v at the place at, and what stood there up to n one place on
 abbrev pub inserted : List ℕ → ℕ → ℕ → ℕ → List ℕ
@@ -57,11 +56,11 @@ out_edit (At i) = Out i
 out_edit (Before i) = Keep
 
 -- Set of a price on a side of n levels: put at its place, or 6 if it is new and the side is full
-abbrev pub set_step : ℕ → Place → Step
-set_step n (At i) = Do (Over i)
-set_step n (Before i) = cond (ltb n max_levels) (Do (In i)) (Refuse R.FullSide)
+abbrev pub set_step : ℕ → Place → Result Edit Refusal
+set_step n (At i) = Ok (Over i)
+set_step n (Before i) = cond (ltb n max_levels) (Ok (In i)) (Err R.FullSide)
 
 -- the edit of a step: a refusal leaves the rows alone
-abbrev pub edit_of : Step → Edit
-edit_of (Do e) = e
-edit_of (Refuse r) = Keep
+abbrev pub edit_of : Result Edit Refusal → Edit
+edit_of (Ok e) = e
+edit_of (Err r) = Keep

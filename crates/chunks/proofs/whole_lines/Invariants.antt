@@ -1,12 +1,7 @@
--- `whole_lines` meets its contract. The loop's invariant: the whole lines are those of the first n bytes.
-use Prim.Native.Nat.{◌≤◌}
-use mathlib.Core.Path.{◌≡◌}
-use lib.ListN.{length, take}
+-- `whole_lines` meets its contract. The loop's invariant: the whole lines are those of the bytes that are left.
+use Rattle.std.proofs.Common.{◌≡◌, take}
 use Rattle.chunks.specs.Chunks.{whole_end}
 use Rattle.chunks.proofs.whole_lines.Given as goal
 
-abbrev pub invariant-loop-n : goal.invariant-loop-n
-invariant-loop-n l = (l.n ≤ length l.text) × (whole_end l.text ≡ whole_end (take l.n l.text))
-
-abbrev pub decreases-loop-n : goal.decreases-loop-n
-decreases-loop-n l = l.n
+abbrev pub invariant-loop-at : goal.invariant-loop-at
+invariant-loop-at l = whole_end l.text ≡ whole_end (take l.at l.text)

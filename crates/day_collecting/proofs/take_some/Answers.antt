@@ -10,6 +10,6 @@ use Rattle.day_collecting.proofs.take_some.Goals as goal
 pub returns-in-Ok : goal.returns-in-Ok
 returns-in-Ok g c =
     let chunk = c.read.new.buf in
-    let whole : length chunk ≡ length c.args.chunk.now = search rules in
-    let few : length (take c.in-Ok.n chunk) ≤ 65536 = rw length-take (omega (arith, c.requires.2)) in
-    (c.take_bytes.ensures.0, λ g. took_bytes 65536 _ _ _ _ (take c.in-Ok.n chunk) few c.take_bytes.ensures.1)
+    let whole : length chunk ≡ 65536 = search rules in
+    let few : length (take c.in-Ok.n chunk) ≤ 65536 = rw length-take (omega arith) in
+    λ g. took_bytes 65536 _ _ _ _ (take c.in-Ok.n chunk) few c.take_bytes.ensures

@@ -1,5 +1,6 @@
 -- What is kept of the lines of a day: its opening cash, and its fills as numbers with their lines.
-use Rattle.std.specs.Prelude.{ℕ, ◌+◌, ◌*◌, false, cond, List, eqb, ltb, ℤ, set}
+use Rattle.std.specs.Prelude.{ℕ, ◌+◌, ◌*◌, Bool, true, false, cond, List, ltb, ℤ, set, Some}
+use Rattle.std.specs.Option.{is_some}
 use Rattle.std.proofs.lemmas.List.Edits.{sets}
 use Rattle.amount.specs.declared.Amount.{Amount}
 use Rattle.holding.specs.declared.Fill.{Fill}
@@ -8,46 +9,68 @@ use Rattle.day_lines.specs.Lines.{max_fills, said}
 use Rattle.day_lines.specs.declared.Said.{Said}
 use Rattle.day_lines.specs.declared.Said.TheVariants as L
 use Rattle.day_keeping.specs.declared.Collected.{Collected}
+use Rattle.day_keeping.specs.declared.fills.Fills.{Fills}
+use Rattle.day_keeping.specs.declared.Reading.{Reading}
+use Rattle.day_keeping.specs.declared.Reading.TheVariants.{Going, Ended, Failed}
 
--- what was read so far, with the numbers of the fills that are kept, and their lines
+-- what was read so far, how many fills are kept, their numbers, and their lines
 pub record Kept : Type 0 where
   pub day : Collected
+  pub fills : ℕ
   pub numbers : List ℤ
   pub lines : List ℕ
 
--- a day with its numbers and lines
-abbrev pub kept : Collected → List ℤ → List ℕ → Kept
-kept d numbers lines = record { day = d; numbers = numbers; lines = lines }
+-- a day with its fills
+abbrev pub kept : Collected → Fills → Kept
+kept d f = record { day = d; fills = f.count; numbers = f.numbers; lines = f.lines }
+
+-- more is to be read
+abbrev pub is_going : Reading → Bool
+is_going Going = true
+is_going Ended = false
+is_going Failed = false
+
+-- nothing went wrong
+abbrev pub is_good : Reading → Bool
+is_good Going = true
+is_good Ended = true
+is_good Failed = false
+
+-- nothing more is to be read
+abbrev pub ended : Reading → Reading
+ended Going = Ended
+ended Ended = Ended
+ended Failed = Failed
+
+abbrev pub finished : Collected → Collected
+finished d = record { line = d.line; opening = d.opening; reading = ended d.reading }
 
 -- ── a line ──
 
 -- it is none that a day may have there: nothing more is read
 abbrev pub spoilt : Collected → Collected
-spoilt d = record { line = d.line; held = d.held; opened = d.opened; cash = d.cash; fills = d.fills; more = false; good = false }
+spoilt d = record { line = d.line; opening = d.opening; reading = Failed }
 
 -- the opening cash, of which there is one
 abbrev pub cash_taken : Amount → Collected → Collected
 cash_taken cash d =
-    cond (eqb d.opened 0)
-    (record { line = d.line; held = d.held; opened = d.line; cash = cash; fills = d.fills; more = d.more; good = d.good })
+    cond (is_some d.opening)
     (spoilt d)
+    (record { line = d.line; opening = Some (record { line = d.line; cash = cash }); reading = d.reading })
 
--- one fill more is kept
-abbrev pub one_fill : Collected → Collected
-one_fill d = record { line = d.line; held = d.held; opened = d.opened; cash = d.cash; fills = d.fills + 1; more = d.more; good = d.good }
-
--- the same of another day, its numbers and lines as they are
+-- the same of another day, its fills as they are
 abbrev pub with : Kept → Collected → Kept
-with k d = record { day = d; numbers = k.numbers; lines = k.lines }
+with k d = record { day = d; fills = k.fills; numbers = k.numbers; lines = k.lines }
 
 -- a fill and its line behind those that are kept, while there is room
 abbrev pub fill_kept : Fill → Kept → Kept
 fill_kept f k =
-    cond (ltb k.day.fills max_fills)
+    cond (ltb k.fills max_fills)
     (record {
-      day = one_fill k.day;
-      numbers = sets k.numbers (5 * k.day.fills) (fill_numbers f);
-      lines = set k.lines k.day.fills k.day.line;
+      day = k.day;
+      fills = k.fills + 1;
+      numbers = sets k.numbers (5 * k.fills) (fill_numbers f);
+      lines = set k.lines k.fills k.day.line;
     })
     (with k (spoilt k.day))
 
@@ -55,12 +78,12 @@ fill_kept f k =
 abbrev pub line_taken : Said → Kept → Kept
 line_taken L.Nothing k = k
 line_taken (L.Cash cash) k = with k (cash_taken cash k.day)
-line_taken (L.Fill f) k = cond (eqb k.day.opened 0) (with k (spoilt k.day)) (fill_kept f k)
+line_taken (L.Fill f) k = cond (is_some k.day.opening) (fill_kept f k) (with k (spoilt k.day))
 line_taken L.Other k = with k (spoilt k.day)
 
 -- the next line begins; lines behind that of the largest u64 have its number too
 abbrev pub next_line : Collected → Collected
-next_line d = record { line = cond (ltb d.line 18446744073709551615) (d.line + 1) d.line; held = 0; opened = d.opened; cash = d.cash; fills = d.fills; more = d.more; good = d.good }
+next_line d = record { line = cond (ltb d.line 18446744073709551615) (d.line + 1) d.line; opening = d.opening; reading = d.reading }
 
 -- a line of these bytes has ended
 abbrev pub line_ended : List ℕ → Kept → Kept

@@ -1,32 +1,15 @@
--- `spoken_end` meets its contract. The loop's invariant: what is spoken is what was passed, and what is spoken of the rest.
-use Prim.Native.Nat.{◌-◌}
-use mathlib.Core.Path.{refl}
-use native.Mathlib.Omega.{arith}
-use Rattle.day_lines.proofs.Cuts.{spoken_on, spoken_remark, spoken-all}
+-- `spoken_end` meets its contract: the first `#` is where the remark begins.
+use Rattle.std.proofs.Common.{◌≡◌, ◌==◌, not, rules, tests}
+use Rattle.std.specs.List.{position}
+use Rattle.std.proofs.lemmas.Iterator.{YieldsList-from_slice}
+use Rattle.std.proofs.lemmas.Iterator.Search.{position_from_yields_List}
+use Rattle.std.proofs.lemmas.List.Sums.{prefix_len-le-length}
+use Rattle.day_lines.proofs.Cuts.{spoken-take, first-at}
 use Rattle.day_lines.proofs.spoken_end.Goals as goal
 
-pub loop-i-init : goal.loop-i-init
-loop-i-init c = (omega arith, refl)
-
-pub bounds-line-i : goal.bounds-line-i
-bounds-line-i c = omega arith
-
-pub returns-then-line-i-eq35 : goal.returns-then-line-i-eq35
-returns-then-line-i-eq35 c = let l = c.loop-i in
-    let s = c.args.line.now in
-    (omega arith, spoken_remark s l.i (omega arith) c.if-line-i-eq35.true l.invariant.1)
-
-pub overflow_add-i : goal.overflow_add-i
-overflow_add-i c = omega arith
-
-pub loop-i-smaller : goal.loop-i-smaller
-loop-i-smaller c = omega arith
-
-pub loop-i-preserved : goal.loop-i-preserved
-loop-i-preserved c = let l = c.loop-i in
-    let s = c.args.line.now in
-    (omega arith, spoken_on s l.i (omega arith) c.if-line-i-eq35.false l.invariant.1)
-
 pub returns : goal.returns
-returns c = let l = c.loop-i in
-    (l.invariant.0, spoken-all c.args.line.now l.i (omega arith) l.invariant.1)
+returns c =
+    let s = c.args.line.now in
+    let e : c.position.result ≡ position (λ b. b == 35) s =
+    position_from_yields_List (λ b. b == 35) _ _ c.position.result c.position.ensures.ran (YieldsList-from_slice s cc) (λ x b q k. search (rules, tests)) in
+    rw (c.unwrap_or.ensures, e, first-at) (prefix_len-le-length (λ b. not (b == 35)) s, spoken-take s)

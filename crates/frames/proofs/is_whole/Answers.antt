@@ -12,5 +12,5 @@ pub returns-in-Remove : goal.returns-in-Remove
 returns-in-Remove c = sym (whole-delta c.args.d (omega arith)
     ∙ rw (← c.delta_fits.ensures, c.if-delta_fits.true, c.in-Remove.is))
 
-pub returns : goal.returns
-returns c = sym (whole-delta c.args.d (omega arith) ∙ rw (← c.delta_fits.ensures, c.if-delta_fits.false))
+pub returns-else-delta_fits : goal.returns-else-delta_fits
+returns-else-delta_fits c = sym (whole-delta c.args.d (omega arith) ∙ rw (← c.delta_fits.ensures, c.if-delta_fits.false))

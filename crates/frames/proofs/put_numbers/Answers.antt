@@ -15,18 +15,3 @@ returns c =
     then 4 a.price (be 4 a.quantity (be 8 a.sequence [])) 3 a.out.now p.new.out r.new.out p.result (q.result + r.result) p.ensures
     (then 4 a.quantity (be 8 a.sequence []) 7 p.new.out q.new.out r.new.out q.result r.result q.ensures r.ensures (omega (arith, p.auto.out, c.requires)))
     (omega (arith, c.requires))
-
-pub overflow_add-result : goal.overflow_add-result
-overflow_add-result c =
-    let a = c.args in
-    let t = small_sum 4 a.quantity _ _ _ _ c.put-sum2.ensures (omega arith) in
-    let u = small_sum 8 a.sequence _ _ _ _ c.put-sum3.ensures (omega arith) in
-    omega arith
-
-pub overflow_add-result-2 : goal.overflow_add-result-2
-overflow_add-result-2 c =
-    let a = c.args in
-    let s = small_sum 4 a.price _ _ _ _ c.put-sum.ensures (omega arith) in
-    let t = small_sum 4 a.quantity _ _ _ _ c.put-sum2.ensures (omega arith) in
-    let u = small_sum 8 a.sequence _ _ _ _ c.put-sum3.ensures (omega arith) in
-    omega arith

@@ -42,8 +42,8 @@ returns-then-not-is_delta c =
     ∙ ap is_delta (c.read_bytes.ensures.bytes ∙ append-nil (spell 20 l))
     ∙ ap (λ (x : List ℕ). is_delta (spell 20 x)) e ∙ delta-bytes (delta_in l))))
 
-pub returns-then-is_whole : goal.returns-then-is_whole
-returns-then-is_whole c =
+pub returns : goal.returns
+returns c =
     let r = c.read_bytes.ensures in
     let l = c.args.line.now in
     let spelt = r.bytes ∙ append-nil (spell 20 l) in
@@ -51,12 +51,12 @@ returns-then-is_whole c =
     let inside : c.delta_in-d.result ≡ delta_in l = c.delta_in-d.ensures ∙ ap delta_of spelt ∙ in_bytes l long in
     let t = sym (ap is_delta spelt) ∙ passed c.is_delta.ensures c.if-not-is_delta.false-raw in
     let own = its_line l long t (r.own (passed refl c.if-not-read_bytes.false-raw)) (omega arith) in
-    delta_read_lem l c.delta_in-d.result inside (sym c.is_whole.ensures ∙ c.if-is_whole.true)
+    delta_read_lem l c.delta_in-d.result inside (passed c.is_whole.ensures c.if-not-is_whole.false-raw)
     (ap (λ (x : BookDelta). same l (encode (delta x))) inside ∙ ap (same l) (sym own) ∙ same_self l)
 
-pub returns : goal.returns
-returns c =
+pub returns-then-not-is_whole : goal.returns-then-not-is_whole
+returns-then-not-is_whole c =
     let l = c.args.line.now in
     let spelt = c.read_bytes.ensures.bytes ∙ append-nil (spell 20 l) in
     let inside : c.delta_in-d.result ≡ delta_in l = c.delta_in-d.ensures ∙ ap delta_of spelt ∙ in_bytes l c.if-line-ne41.false in
-    not-whole l c.delta_in-d.result inside (sym c.is_whole.ensures ∙ c.if-is_whole.false)
+    not-whole l c.delta_in-d.result inside (failed c.is_whole.ensures c.if-not-is_whole.true-raw)

@@ -20,30 +20,6 @@ module _ (ns : Reply (List ℕ)) (b : OrderBook) (p q : Plan) (room : ℕ) (w : 
   fits : places_of q.bids q.asks ≤ room
   fits = room_taken room ns b q held
 
-pub write-requires : goal.write-requires
-write-requires c =
-    let w = held _ _ _ _ _ c.plan_of.ensures c.in_room-plan.ensures in
-    let h = fits _ _ _ _ _ c.plan_of.ensures c.in_room-plan.ensures in
-    (w.long.bid-prices, w.long.bid_quantities, w.bids, omega arith)
-
-pub overflow_mul-b : goal.overflow_mul-b
-overflow_mul-b c = let h = (held _ _ _ _ _ c.plan_of.ensures c.in_room-plan.ensures).bids in search rules
-
-pub offset_bounds-out-b : goal.offset_bounds-out-b
-offset_bounds-out-b c = let h = (held _ _ _ _ _ c.plan_of.ensures c.in_room-plan.ensures).bids in search rules
-
-pub slice_bounds-write-count : goal.slice_bounds-write-count
-slice_bounds-write-count c = let h = fits _ _ _ _ _ c.plan_of.ensures c.in_room-plan.ensures in search rules
-
-pub slice_bounds-write-start : goal.slice_bounds-write-start
-slice_bounds-write-start c = let h = fits _ _ _ _ _ c.plan_of.ensures c.in_room-plan.ensures in search rules
-
-pub write-requires-2 : goal.write-requires-2
-write-requires-2 c =
-    let w = held _ _ _ _ _ c.plan_of.ensures c.in_room-plan.ensures in
-    let h = fits _ _ _ _ _ c.plan_of.ensures c.in_room-plan.ensures in
-    (w.long.ask-prices, w.long.ask_quantities, w.asks, search rules)
-
 pub returns : goal.returns
 returns c =
     let w = held _ _ _ _ _ c.plan_of.ensures c.in_room-plan.ensures in

@@ -1,13 +1,12 @@
 -- What a listing takes of a book: a run of each side, and the answer.
-use Rattle.std.specs.Prelude.{ℕ, ◌+◌, ◌-◌, ◌*◌, ◌≤◌, min, ◌≡◌, Bool, true, false, cond, List, ◌++◌, leb, length}
+use Rattle.std.specs.Prelude.{ℕ, ◌+◌, ◌-◌, ◌*◌, ◌≤◌, min, ◌≡◌, Bool, true, false, cond, List, ◌++◌, leb, length, Ok, Err}
 use Rattle.types.specs.Limits.{max_levels}
 use Rattle.types.specs.Replies.{Reply, map_reply}
-use Rattle.types.specs.Answers.{reply_of_number}
+use Rattle.types.specs.Answers.{reply_of}
 use Rattle.types.specs.declared.Side.{Side}
 use Rattle.types.specs.declared.Side.TheVariants.{Bid, Ask}
 use Rattle.types.specs.declared.Refusal.{Refusal}
 use Rattle.types.specs.declared.Refusal.TheVariants as R
-use Rattle.types.specs.declared.NumberAnswer.TheVariants as N
 use Rattle.types.specs.declared.PriceLevel.{PriceLevel}
 use Rattle.levels.specs.Order.{count_ahead, place_from}
 use Rattle.levels.specs.Inner.Found.{ahead_in, reached_in}
@@ -29,7 +28,7 @@ none = run 0 0 false
 
 -- a refusal takes nothing
 abbrev pub nothing : Refusal → Plan
-nothing why = record { bids = none; asks = none; answer = N.Refused why }
+nothing why = record { bids = none; asks = none; answer = Err why }
 
 -- the places that two runs fill
 abbrev pub places_of : Run → Run → ℕ
@@ -37,7 +36,7 @@ places_of bids asks = 2 * (bids.count + asks.count)
 
 -- two runs, and the places that they fill
 abbrev pub taking : Run → Run → Plan
-taking bids asks = record { bids = bids; asks = asks; answer = N.Is (places_of bids asks) }
+taking bids asks = record { bids = bids; asks = asks; answer = Ok (places_of bids asks) }
 
 -- the plan if there is room for what it takes, else 11
 abbrev pub in_room : ℕ → Plan → Plan
@@ -74,7 +73,7 @@ numbers_in p b = woven (bids_in p b ++ asks_in p b)
 
 -- the plan of numbers of a book: they are what it takes, their number is its answer, and its runs lie in the rows
 pub record Plans (ns : Reply (List ℕ)) (b : OrderBook) (p : Plan) : Type 0 where
-  pub answer : reply_of_number p.answer ≡ map_reply length ns
+  pub answer : reply_of p.answer ≡ map_reply length ns
   pub numbers : numbers_in p b ≡ front_of ns
   pub bids : p.bids.from + p.bids.count ≤ max_levels
   pub asks : p.asks.from + p.asks.count ≤ max_levels

@@ -1,18 +1,16 @@
 -- `numbered::ask` meets its contract: the book answers the question that the numbers name.
-use Rattle.orderbook.specs.Lent.{book_at}
 use mathlib.Core.Path.{ap, ◌∙◌}
 use Rattle.told.specs.Numbers.{tell}
+use Rattle.orderbook.specs.Lent.{book_in}
 use Rattle.questions.specs.Asked.{values_in}
 use Rattle.numbered.specs.Books.{asked_by}
 use Rattle.numbered.proofs.Named.{answered, unanswered}
 use Rattle.numbered.proofs.ask.Goals as goal
 
-pub returns-in-Is : goal.returns-in-Is
+pub returns-in-Ok : goal.returns-in-Ok
 unfolding asked_by
-returns-in-Is c = let q = c in
-    c.told.ensures ∙ ap (tell values_in) (c.ask_at.ensures ∙ answered (book_at c.args.bp.now c.args.bq.now c.args.ap.now c.args.aq.now c.args.counts) _ _ _ (rw q.in-Is.is at q.question_of.ensures))
+returns-in-Ok c = c.of.ensures ∙ ap (tell values_in) (c.ask_at.ensures ∙ answered (book_in c.args.book) _ _ _ c.in-Ok.ensures)
 
-pub returns-in-Refused : goal.returns-in-Refused
+pub returns-in-Err : goal.returns-in-Err
 unfolding asked_by
-returns-in-Refused c = let w = c in
-    c.refused.ensures ∙ unanswered (book_at c.args.bp.now c.args.bq.now c.args.ap.now c.args.aq.now c.args.counts) _ _ values_in w.in-Refused.why (rw w.in-Refused.is at w.question_of.ensures)
+returns-in-Err c = c.refused.ensures ∙ unanswered (book_in c.args.book) _ _ values_in c.in-Err.why c.in-Err.ensures

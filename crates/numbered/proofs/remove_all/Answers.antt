@@ -1,14 +1,17 @@
 -- `numbered::remove_all` meets its contract: the side is emptied if its number names one.
 use mathlib.Core.Path.{ap, ◌∙◌}
-use borrow.Author.Tests.{lt-leb, le-leb}
+use Rattle.types.specs.Replies.{refuse}
+use Rattle.told.specs.Numbers.{tell, nothing}
+use Rattle.orderbook.specs.declared.OrderBook.{OrderBook}
+use Rattle.orderbook.specs.Book.{of_book}
 use Rattle.numbered.specs.Books.{book_told, cleared_by}
+use Rattle.numbered.proofs.Named.{changed, unchanged}
 use Rattle.numbered.proofs.remove_all.Goals as goal
 
-pub returns-then-side-gt1 : goal.returns-then-side-gt1
+pub returns-in-Ok : goal.returns-in-Ok
 unfolding cleared_by
-returns-then-side-gt1 c = rw (c.refused.ensures, lt-leb _ _ c.if-side-gt1.true)
+returns-in-Ok c = rw c.given.ensures (ap book_told (c.remove_all-outcome.ensures ∙ changed _ _ _ _ c.in-Ok.ensures))
 
-pub returns : goal.returns
+pub returns-in-Err : goal.returns-in-Err
 unfolding cleared_by
-returns c = let s = c in
-    rw c.given.ensures (ap book_told c.remove_all.ensures ∙ rw (s.of.ensures, le-leb _ _ s.if-side-gt1.false))
+returns-in-Err c = rw (c.refused.ensures ∙ ap (λ (b : OrderBook). tell nothing (of_book b (refuse c.in-Err.why))) c.of.ensures) (unchanged _ _ _ c.in-Err.why c.in-Err.ensures)

@@ -5,4 +5,4 @@ use Rattle.receiver_questions.proofs.Gated.{gate-fitted}
 use Rattle.receiver_questions.proofs.places_at.Goals as goal
 
 pub returns : goal.returns
-returns c = c.gated_number.ensures ∙ (ap (gate c.args.state) c.places_at.ensures ∙ gate-fitted _ _ _)
+returns c = c.gated.ensures ∙ (ap (gate c.args.state) c.places_at.ensures ∙ gate-fitted _ _ _)

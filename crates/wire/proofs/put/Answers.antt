@@ -1,19 +1,9 @@
 -- `wire::put` meets its contract. The invariant: the bytes w are written from byte at + j on, and the j bytes of `rest` before them are n's.
-use Prim.Native.Nat.{ℕ, ◌+◌, ◌*◌, ◌-◌, ◌%◌}
-use mathlib.Core.Path.{◌≡◌, refl, sym, ap, ap₂, ◌∙◌}
-use mathlib.Core.List.{List, [], ◌∷◌, ◌++◌}
-use native.Mathlib.Omega.{arith}
-use native.Mathlib.Nat.{add-zero}
-use lib.ListN.{length, take, drop, take-append-drop, length-set}
+use Rattle.std.proofs.Common.{ℕ, ◌+◌, ◌*◌, ◌-◌, ◌%◌, ◌≡◌, [], ◌∷◌, ◌++◌, length, take, drop, refl, sym, ap, ap₂, ◌∙◌, arith, take-append-drop, add-zero}
 use Rattle.wire.specs.Wire.{digits_of, be, byte_sum}
 use Rattle.wire.proofs.Bytes.{length-be}
 use Rattle.wire.proofs.Places.{put_step, be_step}
 use Rattle.wire.proofs.put.Goals as goal
-
-pub loop-j-init : goal.loop-j-init
-loop-j-init c =
-    let a = c.args in
-    ([], refl, sym (take-append-drop (2 * (a.at + a.k)) a.out.now), refl, omega arith, omega arith, refl)
 
 pub loop-j-preserved : goal.loop-j-preserved
 loop-j-preserved c =
@@ -26,8 +16,6 @@ loop-j-preserved c =
           ∙ ap₂ (λ (x y : ℕ). take (2 * (a.at + (l.j - 1))) a.out.now ++ x ∷ y ∷ t) c.digit.ensures c.digit-in-loop-j.ensures,
       omega arith,
       omega arith,
-      omega arith,
-      simp length-set l.invariant.6,
     )
 
 pub returns : goal.returns
@@ -35,13 +23,10 @@ returns c =
     let a = c.args in
     let l = c.loop-j in
     let z : l.j ≡ 0 = omega arith in
-    let o : 2 * (a.at + l.j) ≡ 2 * a.at = omega arith in
     let e : l.invariant.0 ≡ be a.k a.n [] = sym (l.invariant.1 ∙ ap (λ (i : ℕ). be i l.rest l.invariant.0) z) in
     let n : length (be a.k a.n []) ≡ a.k = simp (length-be, add-zero) refl in
     record {
-      written =
-          l.invariant.2 ∙ ap₂ (λ (i : ℕ) (w : List ℕ). take i a.out.now ++ (digits_of w ++ drop (2 * (a.at + a.k)) a.out.now)) o e
-          ∙ ap (λ (m : ℕ). take (2 * a.at) a.out.now ++ (digits_of (be a.k a.n []) ++ drop (2 * (a.at + m)) a.out.now)) (sym n);
+      written = rw n (rw (z, e, add-zero) at l.invariant.2);
       summed = l.invariant.3 ∙ ap byte_sum e;
       small = omega arith;
     }

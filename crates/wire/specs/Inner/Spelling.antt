@@ -1,5 +1,5 @@
 -- Bytes read from digits, and numbers from bytes: what a line is read by. specs/Wire.antt says what a line is.
-use Rattle.std.specs.Prelude.{ℕ, zero, suc, ◌+◌, ◌*◌, ◌≡◌, Bool, true, List, [], ◌∷◌, ◌++◌, take, drop}
+use Rattle.std.specs.Prelude.{ℕ, zero, suc, ◌+◌, ◌*◌, ◌≡◌, Bool, true, List, [], ◌∷◌, ◌++◌, take, drop, fold}
 use Rattle.wire.specs.Wire.{digits_of, field}
 
 -- the bytes that n pairs of digits spell
@@ -9,8 +9,7 @@ spell (suc n) l = field 0 1 l ∷ spell n (drop 2 l)
 
 -- the number of bytes, big-endian, after bytes that make n
 abbrev pub joined : ℕ → List ℕ → ℕ
-joined n [] = n
-joined n (b ∷ bs) = joined (n * 256 + b) bs
+joined n bs = fold (λ m b. m * 256 + b) n bs
 
 -- bytes read from n pairs of digits to the front of some memory, and whether these are the bytes' own digits
 pub record Spelt (n : ℕ) (l before after : List ℕ) (r : Bool) : Type 0 where

@@ -9,22 +9,16 @@ use Rattle.asked.proofs.depth.cumulative_depth.Goals as goal
 use Rattle.asked.proofs.depth.cumulative_depth.Goals.{After-find}
 
 inside : (c : After-find) → reached_in c.find.result ≤ 128
-inside c = rw c.find.ensures (le_trans (reached_few _ _ _ _) c.requires.0.few)
-
-pub returns-then-not-is_price : goal.returns-then-not-is_price
-returns-then-not-is_price c = rw (failed c.is_price.ensures c.if-not-is_price.true-raw)
-
-pub find-requires : goal.find-requires
-find-requires c = let w = c.requires in (w.0.long_prices, w.0.few, w.1)
+inside c = rw c.find.ensures (le_trans (reached_few _ _ _ _) c.requires.known.few)
 
 pub reached-reached-requires : goal.reached-reached-requires
 reached-reached-requires c = inside c
 
 pub total-requires : goal.total-requires
-total-requires c = (c.requires.0.long_quantities, rw c.reached-reached.ensures (inside c.before))
+total-requires c = (c.args.lent.long_quantities, rw c.reached-reached.ensures (inside c.before))
 
 pub returns : goal.returns
 returns c = let f = c in
     let l = c in
     let w = l.requires in
-    rw (c.total.ensures, c.reached-reached.ensures, f.find.ensures, passed l.is_price.ensures l.if-not-is_price.false-raw, reached_total _ _ _ _ (lent w.0) _ w.1)
+    rw (c.total.ensures, c.reached-reached.ensures, f.find.ensures, passed l.is_price.ensures l.if-not-is_price.false-raw, reached_total _ _ _ _ (lent w.known) _ w.order)

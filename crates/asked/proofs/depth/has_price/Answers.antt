@@ -4,20 +4,14 @@ use Rattle.types.proofs.Booleans.{passed, failed}
 use Rattle.asked.proofs.Finds.{lent, found_has, absent_has}
 use Rattle.asked.proofs.depth.has_price.Goals as goal
 
-pub returns-then-not-is_price : goal.returns-then-not-is_price
-returns-then-not-is_price c = rw (failed c.is_price.ensures c.if-not-is_price.true-raw)
-
-pub find-place-requires : goal.find-place-requires
-find-place-requires c = let w = c.requires in (w.0.long_prices, w.0.few, w.1)
-
 pub returns-in-At : goal.returns-in-At
 returns-in-At c = let f = c in
     let l = c in
     let w = l.requires in
-    rw (passed l.is_price.ensures l.if-not-is_price.false-raw, found_has _ _ _ _ (lent w.0) _ _ (sym f.find-place.ensures ∙ c.in-At.is))
+    rw (passed l.is_price.ensures l.if-not-is_price.false-raw, found_has _ _ _ _ (lent w.known) _ _ (sym f.find-place.ensures ∙ c.in-At.is))
 
 pub returns-in-Before : goal.returns-in-Before
 returns-in-Before c = let f = c in
     let l = c in
     let w = l.requires in
-    rw (passed l.is_price.ensures l.if-not-is_price.false-raw, absent_has _ _ _ _ (lent w.0) _ _ w.1 (sym f.find-place.ensures ∙ c.in-Before.is))
+    rw (passed l.is_price.ensures l.if-not-is_price.false-raw, absent_has _ _ _ _ (lent w.known) _ _ w.order (sym f.find-place.ensures ∙ c.in-Before.is))

@@ -20,10 +20,6 @@ pub returns-then-target-eq0 : goal.returns-then-target-eq0
 unfolding impact_of
 returns-then-target-eq0 c = rw (fits c.before, c.if-target-eq0.true)
 
-pub price_or-requires : goal.price_or-requires
-unfolding impact_of
-price_or-requires c = (c.requires, omega (arith, c.if-target-eq0.false), leb-true _ _ (fits c.before))
-
 pub returns : goal.returns
 unfolding impact_of
 returns c = rw (fits c.before.before, ne_eqb _ _ c.if-target-eq0.false, c.price_or.ensures)

@@ -21,10 +21,6 @@ pub returns-then-target-eq0 : goal.returns-then-target-eq0
 unfolding vwap_of
 returns-then-target-eq0 c = rw (fits c.before.before.before, c.if-target-eq0.true, c.over.ensures, c.of.ensures, over_some _ 1 (λ e. omega arith))
 
-pub price_or-requires : goal.price_or-requires
-unfolding vwap_of
-price_or-requires c = (c.requires, omega (arith, c.if-target-eq0.false), leb-true _ _ (fits c.before))
-
 pub returns : goal.returns
 unfolding vwap_of
 returns c = rw (fits c.before.before, ne_eqb _ _ c.if-target-eq0.false, c.price_or.ensures)

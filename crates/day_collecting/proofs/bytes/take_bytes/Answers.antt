@@ -1,9 +1,11 @@
 -- `take_bytes` meets its contract: where nothing more is read, nothing more is taken.
-use mathlib.Core.Path.{◌∙◌}
+use Rattle.std.proofs.Common.{◌≡◌, ◌∙◌, false, rules, tests}
+use Rattle.day_keeping.specs.Inner.Keeping.{is_going}
 use Rattle.day_collecting.proofs.Texts.{none-taken}
 use Rattle.day_collecting.proofs.bytes.take_bytes.Goals as goal
 
-pub returns-else-after : goal.returns-else-after
-returns-else-after g c =
-    let l = c.loop-i in
-    (l.invariant.1, λ rest. l.invariant.3 rest ∙ none-taken c.args.bytes.now l.i _ _ c.if-after.false rest)
+pub returns-then-not-is_going : goal.returns-then-not-is_going
+returns-then-not-is_going g c =
+    let l = c.loop-byte in
+    let ended : is_going l.after.reading ≡ false = search (rules, tests) in
+    λ rest. l.invariant rest ∙ none-taken c.args.bytes.now l.byte-index _ _ ended rest

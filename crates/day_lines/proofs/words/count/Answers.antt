@@ -1,31 +1,16 @@
--- `count` meets its contract. The loop's invariant: the words that were counted and those that are left are all.
-use Prim.Native.Nat.{◌-◌}
-use mathlib.Core.Path.{ap}
-use native.Mathlib.Omega.{arith}
-use lib.ListN.{length}
-use Rattle.day_lines.proofs.Cuts.{counted, counted-all}
+-- `count` meets its contract: the words are what the chain gives.
+use Rattle.std.proofs.Common.{◌==◌, not, length, ap, sym, ◌∙◌, rules, tests}
+use Rattle.std.proofs.lemmas.Iterator.Consumers.{count_from_yields_List, YieldsList-from_filter, YieldsList-at}
+use Rattle.std.proofs.lemmas.Iterator.Splits.{YieldsList-from_slice_split}
+use Rattle.day_lines.specs.Words.{is_blank}
+use Rattle.day_lines.proofs.Cuts.{words-cut}
 use Rattle.day_lines.proofs.words.count.Goals as goal
 
-pub loop-at-init : goal.loop-at-init
-loop-at-init c = (omega arith, c.skip-at.ensures.1, omega (arith, ap length c.skip-at.ensures.2))
-
-pub next-at-requires : goal.next-at-requires
-next-at-requires c = c.loop-at.invariant.1
-
-pub overflow_add-n : goal.overflow_add-n
-overflow_add-n c = omega (arith, c.next-at.ensures.starts.within, c.next-at.ensures.passed (omega arith))
-
-pub loop-at-smaller : goal.loop-at-smaller
-loop-at-smaller c = omega (arith, c.next-at.ensures.starts.within, c.next-at.ensures.passed (omega arith))
-
-pub loop-at-preserved : goal.loop-at-preserved
-loop-at-preserved c = let n = c.next-at in
-    let l = c.loop-at in
-    let s = c.args.text.now in (
-      omega (arith, n.ensures.passed (omega arith)),
-      n.ensures.starts,
-      counted s l.at n.result l.n n.ensures (omega arith) l.invariant.2,
-    )
-
 pub returns : goal.returns
-returns c = let l = c.loop-at in counted-all c.args.text.now l.at l.n (omega arith) l.invariant.2
+returns c =
+    let s = c.args.text.now in
+    count_from_yields_List c.filter.result _ c.count.ensures.ran
+    (YieldsList-from_filter _ (λ p. not (length p == 0))
+    (YieldsList-at c.filter.ensures.source
+    (YieldsList-from_slice_split _ is_blank s c.split.ensures.rest c.split.ensures.done c.split.ensures.closure (λ x b q k. search (rules, tests))))
+    c.filter.ensures.closure (λ x b q k. search (rules, tests))) ∙ sym (ap length (words-cut s))

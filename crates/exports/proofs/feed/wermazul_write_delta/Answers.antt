@@ -8,13 +8,12 @@ use Rattle.exports.specs.Feeds.{line_of, delta_line_by}
 use Rattle.numbered.proofs.Named.{left-told}
 use Rattle.exports.proofs.feed.wermazul_write_delta.Goals as goal
 
-pub returns-in-Is : goal.returns-in-Is
+pub returns-in-Ok : goal.returns-in-Ok
 unfolding delta_line_by
-returns-in-Is c = let w = c in
-    let d = c in
-    left-told w.write_delta.result _ _ _ c.of_number.ensures w.write_delta.ensures ∙ ap (λ (x : Reply BookDelta). told_left (written (line_of x) d.args.out.now)) (rw d.in-Is.is at d.delta_of.ensures)
+returns-in-Ok c =
+    left-told c.write_delta.result _ _ _ c.of.ensures c.write_delta.ensures
+    ∙ ap (λ (x : Reply BookDelta). told_left (written (line_of x) c.args.out.now)) c.in-Ok.ensures
 
-pub returns-in-Refused : goal.returns-in-Refused
+pub returns-in-Err : goal.returns-in-Err
 unfolding delta_line_by
-returns-in-Refused c = let w = c in
-    rw c.of_refusal.ensures (ap (λ (x : Reply BookDelta). told_left (written (line_of x) w.args.out.now)) (rw w.in-Refused.is at w.delta_of.ensures))
+returns-in-Err c = rw c.from.ensures (ap (λ (x : Reply BookDelta). told_left (written (line_of x) c.args.out.now)) c.in-Err.ensures)

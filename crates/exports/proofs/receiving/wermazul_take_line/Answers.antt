@@ -6,9 +6,8 @@ use Rattle.exports.proofs.receiving.wermazul_take_line.Goals as goal
 
 pub returns-then-state-gt1 : goal.returns-then-state-gt1
 unfolding taken_by
-returns-then-state-gt1 c = rw (c.of_refusal.ensures, lt-leb _ _ c.if-state-gt1.true)
+returns-then-state-gt1 c = rw (c.from.ensures, lt-leb _ _ c.if-state-gt1.true)
 
 pub returns : goal.returns
 unfolding taken_by
-returns c = let t = c in
-    rw (c.of_outcome.ensures, c.state_number.ensures) (ap held_told t.take_line-turned.ensures ∙ rw (t.state_of.ensures, le-leb _ _ t.if-state-gt1.false))
+returns c = rw (c.of.ensures, c.from-3.ensures) (ap held_told c.take_line-turned.ensures ∙ rw (c.from-2.ensures, le-leb _ _ c.if-state-gt1.false))

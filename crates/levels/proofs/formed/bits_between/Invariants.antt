@@ -1,5 +1,4 @@
 -- `formed::bits_between` meets its contract. The loop's invariant: the bits so far, and both rows from here to `to`, make the whole.
-use Prim.Native.Nat.{◌-◌}
 use mathlib.Core.Path.{◌≡◌}
 use mathlib.Core.Bool.{◌&&◌}
 use lib.Dec.{eqb}
@@ -9,6 +8,3 @@ use Rattle.levels.proofs.formed.bits_between.Given as goal
 
 abbrev pub invariant-loop-i : goal.invariant-loop-i
 invariant-loop-i l = both l.from (take l.to l.prices) (take l.to l.quantities) ≡ eqb l.bits 0 && both l.i (take l.to l.prices) (take l.to l.quantities)
-
-abbrev pub decreases-loop-i : goal.decreases-loop-i
-decreases-loop-i l = l.to - l.i

@@ -9,6 +9,8 @@ use Rattle.frames.specs.Frames.{snapshot, snapshot_of, encode}
 use Rattle.frames.proofs.Reading.{same-told}
 use Rattle.lines.proofs.Rows.{front}
 use Rattle.lines.proofs.Booked.{book-length}
+use Rattle.orderbook.specs.Lent.{book_in}
+use Rattle.orderbook.proofs.Books.{long_rows}
 use Rattle.lines.proofs.snapshot.is_line_of.Goals as goal
 
 -- the length of the book's line
@@ -17,8 +19,8 @@ own-length b w k = book-length b w k.0 k.1
 
 pub returns : goal.returns
 returns c =
-    let b = c.args.book in
-    let w : Long b = record { bid-prices = search rules; bid_quantities = search rules; ask-prices = search rules; ask_quantities = search rules } in
+    let b = book_in c.args.lent in
+    let w = long_rows c.args.lent in
     let n = own-length b w c.requires in
     let e = front c.put_snapshot.new.out (encode (snapshot (snapshot_of b))) _ _ c.put_snapshot.ensures n in
     same-told c.same.result c.args.line.now (encode (snapshot (snapshot_of b))) (λ t. c.same.ensures.0 t ∙ e)

@@ -10,7 +10,7 @@ use native.Mathlib.Omega.{arith}
 use Rattle.levels.specs.Table.{levels}
 use Rattle.levels.proofs.Tables.{levels-length}
 use Rattle.orderbook.specs.declared.OrderBook.{OrderBook}
-use Rattle.orderbook.specs.Lent.{book_at}
+use Rattle.orderbook.specs.Lent.{book_in}
 use Rattle.frames.specs.Frames.{snapshot_of}
 use Rattle.lines.proofs.Rows.{side_sum, sums_fit, snapshot_written}
 use Rattle.lines.proofs.snapshot.put_snapshot.Goals as goal
@@ -33,13 +33,13 @@ sums {b = b} r s p q =
 pub returns : goal.returns
 returns c =
     let a = c.args in
-    let b = book_at a.bp.now a.bq.now a.ap.now a.aq.now a.counts in
+    let b = book_in a.lent in
     let p = c.put_counts-sum in
     let q = c.put_levels-sum2 in
     let r = c.put_levels-sum3 in
     snapshot_written (snapshot_of b) b.bids.count b.asks.count a.out.now p.new.out q.new.out r.new.out c.finish.new.out
     p.result q.result r.result (bids-length c.requires) (asks-length c.requires)
-    p.ensures q.ensures r.ensures c.finish.ensures c.requires.room
+    (rw c.counts.ensures at p.ensures) q.ensures r.ensures c.finish.ensures c.requires.room
 
 pub overflow_add-sum : goal.overflow_add-sum
 overflow_add-sum c =

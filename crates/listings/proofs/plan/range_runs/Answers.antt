@@ -17,31 +17,18 @@ range c = passed c.is_range.ensures c.if-not-is_range.false-raw
 apart : (c : Else-not-is_range) → let a = c.args in ltb a.hi a.lo ≡ false
 apart c = let a = c.args in le-ltb a.hi a.lo (range_order a.lo a.hi (range c))
 
-pub returns-then-not-is_range : goal.returns-then-not-is_range
-returns-then-not-is_range c = rw (c.nothing.ensures, failed c.is_range.ensures c.if-not-is_range.true-raw)
-
-pub run_between-requires : goal.run_between-requires
-run_between-requires c = let e = c in
-    let w = e.requires in
-    (w.0, w.1, w.2, rw c.in-Bid.is (apart c.before))
-
 pub taking-requires : goal.taking-requires
-taking-requires c = (rw c.run_between.ensures (le_trans (run-few _ _ _ _ _) c.requires.1), omega arith)
-
-pub run_between-requires-in-Ask : goal.run_between-requires-in-Ask
-run_between-requires-in-Ask c = let e = c in
-    let w = e.requires in
-    (w.0, w.1, w.2, rw c.in-Ask.is (apart c.before))
+taking-requires c = (rw c.run_between.ensures (le_trans (run-few _ _ _ _ _) c.requires.known.few), omega arith)
 
 pub taking-requires-in-Ask : goal.taking-requires-in-Ask
-taking-requires-in-Ask c = (omega arith, rw c.run_between-in-Ask.ensures (le_trans (run-few _ _ _ _ _) c.requires.1))
+taking-requires-in-Ask c = (omega arith, rw c.run_between-in-Ask.ensures (le_trans (run-few _ _ _ _ _) c.requires.known.few))
 
 pub returns-in-Bid : goal.returns-in-Bid
 returns-in-Bid c = let m = c in
     let e = c in
-    rw (c.taking.ensures, c.run_between.ensures) (bids_found _ _ _ _ e.requires.2 (range c.before.before.before) m.in-Bid.is)
+    rw (c.taking.ensures, c.run_between.ensures) (bids_found _ _ _ _ e.requires.order (range c.before.before.before) m.in-Bid.is)
 
 pub returns-in-Ask : goal.returns-in-Ask
 returns-in-Ask c = let m = c in
     let e = c in
-    rw (c.taking-in-Ask.ensures, c.run_between-in-Ask.ensures) (asks_found _ _ _ _ e.requires.2 (range c.before.before.before) m.in-Ask.is)
+    rw (c.taking-in-Ask.ensures, c.run_between-in-Ask.ensures) (asks_found _ _ _ _ e.requires.order (range c.before.before.before) m.in-Ask.is)

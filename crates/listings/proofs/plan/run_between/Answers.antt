@@ -12,14 +12,10 @@ apart : (c : After-reached-end) → c.ahead-from.result ≤ c.reached-end.result
 apart c =
     let a = c in
     let s = c in
-    rw (c.reached-end.ensures, c.find-2.ensures, a.ahead-from.ensures, a.find.ensures) (ends-apart _ _ _ _ s.requires.2 s.requires.3)
+    rw (c.reached-end.ensures, c.find-2.ensures, a.ahead-from.ensures, a.find.ensures) (ends-apart _ _ _ _ s.requires.0.order s.requires.1)
 
 pub reached-end-requires : goal.reached-end-requires
-reached-end-requires c = rw c.find-2.ensures (le_trans (reached_few _ _ _ _) c.requires.1)
+reached-end-requires c = rw c.find-2.ensures (le_trans (reached_few _ _ _ _) c.requires.0.known.few)
 
 pub overflow_sub-result : goal.overflow_sub-result
 overflow_sub-result c = omega (arith, apart c)
-
-pub returns : goal.returns
-returns c = let a = c in
-    rw (c.reached-end.ensures, c.find-2.ensures, a.ahead-from.ensures, a.find.ensures)

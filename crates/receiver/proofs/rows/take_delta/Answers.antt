@@ -9,30 +9,6 @@ use Rattle.receiver.specs.Turns.{held}
 use Rattle.receiver.proofs.Turns.{next_admitted, waiting-turn, old_turn, next-turn, next_any, gap-turn}
 use Rattle.receiver.proofs.rows.take_delta.Goals as goal
 
-pub returns-in_default : goal.returns-in_default
-returns-in_default c =
-    let a = c.args in
-    sym (waiting-turn (receiver_at a.bp.now a.bq.now a.ap.now a.aq.now a.state a.counts) a.delta c.in_default.is)
-
-pub returns-then-delta-counts : goal.returns-then-delta-counts
-returns-then-delta-counts c =
-    let a = c.args in
-    sym (old_turn (receiver_at a.bp.now a.bq.now a.ap.now a.aq.now a.state a.counts) a.delta c.in-Live.is c.if-delta-counts.true)
-
-pub returns-then-delta-counts-gt1 : goal.returns-then-delta-counts-gt1
-returns-then-delta-counts-gt1 c =
-    let a = c.args in
-    sym (gap-turn (receiver_at a.bp.now a.bq.now a.ap.now a.aq.now a.state a.counts) a.delta c.in-Live.is (omega arith))
-
-pub returns : goal.returns
-returns c =
-    let a = c.args in
-    let r = receiver_at a.bp.now a.bq.now a.ap.now a.aq.now a.state a.counts in
-    let next : a.delta.sequence ≡ held r + 1 = omega arith in
-    c.take_next.ensures
-    ∙ next_any Live a.state r.book (applied r.book a.delta).reply (applied r.book a.delta).book
-    ∙ sym (next-turn r a.delta c.in-Live.is next)
-
 pub take_next-requires : goal.take_next-requires
 take_next-requires c =
     let a = c.args in

@@ -1,2 +1,0 @@
--- How the walk over lent fills goes.
-pub mod Walk

@@ -1,2 +1,0 @@
--- What only code and proofs speak of.
-pub mod Places

@@ -1,9 +1,0 @@
--- The turns that are left fall; the buffers keep their lengths.
-use Rattle.std.proofs.Common.{length, ◌≡◌}
-use Rattle.feeding.proofs.take_all.Given as goal
-
-abbrev pub invariant-loop-turns : goal.invariant-loop-turns
-invariant-loop-turns g l = (length l.buf ≡ length l.initial.buf) × (length l.out ≡ length l.initial.out)
-
-abbrev pub decreases-loop-turns : goal.decreases-loop-turns
-decreases-loop-turns g l = l.turns

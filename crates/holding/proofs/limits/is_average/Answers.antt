@@ -1,9 +1,0 @@
--- `limits::is_average`: each answer is what the tests so far say.
-use borrow.Author.Tests.{eq-eqb, ne_eqb}
-use Rattle.holding.proofs.limits.is_average.Goals as goal
-
-pub returns-then-size-eq0 : goal.returns-then-size-eq0
-returns-then-size-eq0 c = rw (eq-eqb _ _ c.if-size-eq0.true)
-
-pub returns : goal.returns
-returns c = rw (ne_eqb _ _ c.if-size-eq0.false, c.is_price.ensures)

@@ -1,6 +1,0 @@
--- `OrderBook::remove_all` meets its contract: what is left of the rows is put together again.
-use mathlib.Core.Path.{◌∙◌}
-use Rattle.orderbook.proofs.OrderBook.remove_all.Goals as goal
-
-pub returns : goal.returns
-returns c = c.given.ensures ∙ (rw c.counts_of-counts.ensures at c.remove_all-done.ensures)

@@ -1,8 +1,0 @@
--- `questions::Answer::of_level` meets its contract: a level stays a level, and a refusal a refusal.
-use Rattle.questions.proofs.Answer.of_level.Goals as goal
-
-pub returns-in-Is : goal.returns-in-Is
-returns-in-Is c = rw c.in-Is.is
-
-pub returns-in-Refused : goal.returns-in-Refused
-returns-in-Refused c = rw c.in-Refused.is

@@ -1,6 +1,0 @@
--- Each line ends within the text, and the next begins after it.
-use Rattle.std.proofs.Common.{length, ◌-◌}
-use Rattle.replaying.proofs.replay.Given as goal
-
-abbrev pub decreases-loop-at : goal.decreases-loop-at
-decreases-loop-at g l = length l.text - l.at
