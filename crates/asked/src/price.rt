@@ -55,10 +55,7 @@ pub fn volume_price(lent: SideRows<'_>, target: u64) -> Result<u64, Refusal>
     if types::MAX_VOLUME < target {
         return Err(Refusal::OutOfLimits);
     }
-    if lent.count == 0 {
-        return Err(Refusal::NoValue);
-    }
-    if target == 0 {
+    if lent.count == 0 || target == 0 {
         return Err(Refusal::NoValue);
     }
     Ok(walks::reach(lent, target) as u64)

@@ -1,5 +1,6 @@
 // What Set and Remove do to a side. A change is planned on the prices, then done row by row, so that a caller can lend one row of a
-// record at a time and a refused change touches nothing.
+// record at a time and a refused change touches nothing. They are no record of `&mut` rows: a clause on one would name what its borrow holds at the
+// end by a path into memory.
 #![tactic(auto)]
 
 ghost use Rattle.std.specs.Prelude.{◌≡◌, true, ◌≤◌, ◌<◌, length, take};

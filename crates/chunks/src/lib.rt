@@ -8,7 +8,8 @@ ghost use Rattle.chunks.specs.Chunks.{whole_end, too_long};
 // One byte more than a line may have, its line feed included: so much of a longer line is kept, and it is damaged whatever follows.
 const TOO_LONG: usize = types::MAX_DIGITS + 2;
 
-// The length of a text's lines, without what follows its last line feed.
+// The length of a text's lines, without what follows its last line feed. The loop is no `rposition`, which has no index:
+// must-fail/read_before_the_start.edit holds to it.
 #[tactic(auto, using(crate::proofs::Kept::ended_here, crate::proofs::Kept::ended_before))]
 pub fn whole_lines(text: &[u8]) -> usize
     ensures value { result ≡ whole_end text.now }

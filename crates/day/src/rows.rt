@@ -1,6 +1,7 @@
 // A day's fills booked to a ledger that is lent as its rows, where they stand. The fills are lent as numbers, five each: symbol, side (0 a Bid, 1
 // an Ask), quantity, price, commission. Numbers of 64 bits let a caller that is not Rattle hand over what is too large for a field, and have it
 // refused.
+// The rows that change are lent one by one, as C lends them: of a struct of `&mut` rows a clause names each by its place alone, no plainer.
 ghost use Rattle.std.specs.Prelude.{◌≡◌, ◌<◌, ◌≤◌, true, length, pos, slice_index_or, unsigned_abs};
 ghost use Rattle.types.specs.Answers.{reply_of};
 ghost use Rattle.types.specs.Named.{side_named};

@@ -19,7 +19,7 @@ use day_keeping::fills::Fills;
 use day_keeping::{Collected, Opening};
 use day_printing::refusals::put_refused;
 use day_printing::{Ended, put_day};
-use inputs::{is_named, open_named, write_out};
+use inputs::{Named, is_named, open_named, write_out};
 use position::PositionLedger;
 use position::lent::LedgerRows;
 use std::io::Read;
@@ -122,9 +122,8 @@ pub fn take(rt: &impl Runtime) {
         return;
     }
     let mut path = [0u8; 4096];
-    let named = open_named(rt, &mut path);
-    let end = named.length;
-    if let Some(mut file) = named.file {
-        take_day(rt, &mut file, &path[..end]);
-    }
+    let Some(Named { mut file, length }) = open_named(rt, &mut path) else {
+        return;
+    };
+    take_day(rt, &mut file, &path[..length]);
 }

@@ -6,7 +6,7 @@ ghost use Rattle.day_lines.specs.Words.{is_blank, words, word_at};
 fn is_blank(byte: u8) -> bool
     ensures { result ≡ is_blank byte }
 {
-    (byte == b' ') | ((byte == b'\t') | (byte == b'\r'))
+    matches!(byte, b' ' | b'\t' | b'\r')
 }
 
 // How many words there are.

@@ -33,7 +33,7 @@ fn is_all_zero(position: Position) -> bool
 {
     let quantity = position.quantity.size();
     let realized = position.realized.size();
-    (quantity == 0) & ((position.average == 0) & (realized == 0))
+    quantity == 0 && position.average == 0 && realized == 0
 }
 
 #[tactic(auto, using(crate::proofs::Texts::pieces), unfolding(crate::specs::Booked::position_text))]

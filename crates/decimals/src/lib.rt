@@ -23,6 +23,7 @@ pub fn put_byte(out: &mut [u8], at: usize, byte: u8) -> usize
     at + 1
 }
 
+// The digits stand in an array first: memory is fixed and no heap is used.
 pub fn put_number(out: &mut [u8], at: usize, n: u64) -> usize
     requires { at + length (decimal n) ≤ length out.old }
     ensures { Puts (decimal n) at out.old out.new result }

@@ -1,6 +1,7 @@
 // A delta: whether its numbers admit it and what it then comes to on a side, in the order of the refusals' numbers, and how it is done to that
 // side's rows. The side is lent as its two rows, with the counts beside them; a delta is decided before anything is written, and a refusal's step
-// leaves every row alone.
+// leaves every row alone. The rows that change are lent one by one: a clause on a record of `&mut` rows would name what its borrow holds at the end
+// by a path into memory. A best price is 0 for none, as the first place of an empty side's row holds it: an Option would be made of it and taken apart again.
 #![tactic(auto)]
 
 ghost use Rattle.std.specs.Prelude.{◌≡◌, true, ◌≤◌, length, take, get_or, leb, Ok};
@@ -118,12 +119,7 @@ pub fn delta_fits(action: DeltaAction, price: Price, quantity: Quantity) -> bool
     ensures { result ≡ delta_fits action price quantity }
 {
     match action {
-        DeltaAction::Set => {
-            if !types::is_price(price) {
-                return false;
-            }
-            types::is_quantity(quantity)
-        }
+        DeltaAction::Set => types::is_price(price) && types::is_quantity(quantity),
         DeltaAction::Remove => types::is_price(price),
     }
 }
@@ -154,12 +150,7 @@ fn meets(side: Side, price: Price, best: Price) -> bool
     ensures { result ≡ meets side price best }
 {
     match side {
-        Side::Bid => {
-            if best < 1 {
-                return false;
-            }
-            best <= price
-        }
+        Side::Bid => 1 <= best && best <= price,
         Side::Ask => price <= best,
     }
 }

@@ -1,4 +1,5 @@
-// The ledger for Rust and C.
+// The ledger for Rust and C. A side's number is tested before a Side is made of it: answers are told in C's numbers, with no `?`,
+// and a match of a `try_from` would be no plainer.
 ghost use Rattle.std.specs.Prelude.{◌≡◌};
 ghost use Rattle.types.specs.Answers.{reply_of};
 ghost use Rattle.position.specs.Ledger.{is_ledger, created, deposited};

@@ -1,8 +1,9 @@
 // What Rust and C link: thin functions on numbers and lent memory, over the library. A book or a receiver is lent as its four rows (bid
 // prices, bid quantities, ask prices, ask quantities) with its counts beside them, a ledger as its three (quantities, averages, realized profits)
-// with its totals; each is asked and changed where it stands. An answer comes back as its number and values. Sides, actions, questions, listings and worths are named by their numbers; a number that names none
-// gives 2, after 1 for a record that is none.
-// Kept as numbers and as rows one by one: the C interface has neither enums with values nor structs of references.
+// with its totals; each is asked and changed where it stands. An answer comes back as its number and values. Sides, actions, questions, listings
+// and worths are named by their numbers; a number that names none gives 2, after 1 for a record that is none.
+// Kept as numbers and as rows one by one: the C interface has neither enums with values nor structs of references. The records of an answer
+// below are C's layouts for the same reason: an answer's number and values stand beside what the call left.
 #![tactic(auto)]
 
 pub mod layout; // layout.rt: the archive's version, and the sizes of the records that cross

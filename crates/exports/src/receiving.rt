@@ -1,4 +1,5 @@
-// The receiver for Rust and C: it takes lines, and answers what its book answers while it is live.
+// The receiver for Rust and C: it takes lines, and answers what its book answers while it is live. A state's
+// number is tested before a State is made of it: answers are told in C's numbers, with no `?`, and a match of a `try_from` would be no plainer.
 ghost use Rattle.std.specs.Prelude.{◌≡◌, length};
 ghost use Rattle.types.specs.Replies.{map_reply};
 ghost use Rattle.types.specs.Written.{fitted, written};

@@ -1,12 +1,13 @@
 // What the feed programs do: read a feed, from the file that the first argument names or else from standard input, a chunk at a time, and write
 // what is printed of each chunk before the next is read; then the end state. What is printed of a chunk and of the end state is promised in
-// `printing`. No contract can say what is read or written: this is proved safe and ending, and run.
+// `printing`. No contract can say what is read or written: this is proved safe and ending, and run. The buffers are arrays of fixed lengths, since
+// no heap is used.
 #![tactic(auto)]
 
 ghost use Rattle.std.specs.Prelude.{◌≡◌, ◌*◌, ◌≤◌, length, IfOk};
 
 use chunks::{keep, whole_lines};
-use inputs::{fail, is_named, open_named, write_out};
+use inputs::{Named, fail, is_named, open_named, write_out};
 use printing::Heard;
 use printing::ends::put_end;
 use receiver::Receiver;
@@ -135,9 +136,8 @@ pub fn take(rt: &impl Runtime) {
         return;
     }
     let mut path = [0u8; 4096];
-    let named = open_named(rt, &mut path);
-    let end = named.length;
-    if let Some(mut file) = named.file {
-        take_feed(rt, &mut file, &path[..end]);
-    }
+    let Some(Named { mut file, length }) = open_named(rt, &mut path) else {
+        return;
+    };
+    take_feed(rt, &mut file, &path[..length]);
 }

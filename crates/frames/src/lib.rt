@@ -82,8 +82,7 @@ pub fn write_delta(d: BookDelta, out: &mut [u8]) -> Result<u64, Refusal>
 }
 
 // The numbers that stand where a delta has its own, in the bytes of a line.
-fn delta_in(bytes: &[u8]) -> BookDelta
-    requires { length bytes.now ≡ 20 }
+fn delta_in(bytes: &[u8; 20]) -> BookDelta
     ensures { result ≡ delta_of bytes.now }
 {
     let side = Side::from(bytes[1] == 1);
@@ -98,8 +97,7 @@ fn delta_in(bytes: &[u8]) -> BookDelta
 }
 
 // Whether bytes are of a delta's kind, with a side and an action, and add up to a multiple of 256.
-fn is_delta(bytes: &[u8]) -> bool
-    requires { length bytes.now ≡ 20 }
+fn is_delta(bytes: &[u8; 20]) -> bool
     ensures { result ≡ is_delta bytes.now }
 {
     bytes[0] == 1 && bytes[1] <= 1 && bytes[2] <= 1 && wire::sum(bytes) % 256 == 0
@@ -110,16 +108,11 @@ pub fn read_delta(line: &[u8]) -> Result<BookDelta, Refusal>
     ensures { reply_of result ≡ delta_read (decode line.now) }
 {
     let mut bytes = [0u8; 20];
-    if line.len() != 41 {
-        return Err(Refusal::DamagedLine);
-    }
-    if line[40] != 10 {
-        return Err(Refusal::DamagedLine);
-    }
-    if !wire::read_bytes(line, 20, &mut bytes) {
-        return Err(Refusal::DamagedLine);
-    }
-    if !is_delta(&bytes) {
+    if line.len() != 41
+        || line[40] != 10
+        || !wire::read_bytes(line, 20, &mut bytes)
+        || !is_delta(&bytes)
+    {
         return Err(Refusal::DamagedLine);
     }
     let d = delta_in(&bytes);

@@ -37,6 +37,7 @@ impl<'a> PositionRows<'a> {
 }
 
 // Puts a position in the place of a symbol.
+// The rows that change are lent one by one, as C lends them: of a struct of `&mut` rows a clause names each by its place alone, no plainer.
 pub fn put(
     quantities: &mut [i64; 32],
     averages: &mut [u32; 32],
@@ -47,9 +48,7 @@ pub fn put(
     requires { symbol < 32 }
     ensures { (quantities.new ≡ set quantities.old symbol position.quantity.value) × (averages.new ≡ set averages.old symbol position.average) × (realized.new ≡ set realized.old symbol position.realized.value) }
 {
-    let lots = position.quantity.value;
-    let profit = position.realized.value;
-    quantities[symbol] = lots;
+    quantities[symbol] = position.quantity.value;
     averages[symbol] = position.average;
-    realized[symbol] = profit;
+    realized[symbol] = position.realized.value;
 }

@@ -1,7 +1,7 @@
 // What the programs share: how they open the file that the first argument names, how they write what they print, and how they say what failed.
 #![tactic(auto)]
 
-ghost use Rattle.std.specs.Prelude.{◌≡◌, ◌≤◌, length, take};
+ghost use Rattle.std.specs.Prelude.{◌≡◌, ◌≤◌, IfSome, length, take};
 
 use std::env::{Env, FillError};
 use std::io::{Error, ErrorKind};
@@ -11,10 +11,10 @@ use std::{fs, str};
 // The system's number of a name that is too long.
 const NAME_TOO_LONG: i32 = 36;
 
-// A file that is open, none where it is not, and how many bytes its name has.
+// A file that is open, and how many bytes its name has.
 #[derive(Drop)]
 pub struct Named<F> {
-    pub file: Option<F>,
+    pub file: F,
     pub length: usize,
 }
 
@@ -47,30 +47,28 @@ fn open<R: Files>(rt: &R, name: &[u8]) -> Result<R::File, Error> {
 }
 
 // Opens the file that the first argument names, its name in the memory lent, or says why it cannot.
-pub fn open_named<R: Env + Files + Eprint + Alloc>(rt: &R, path: &mut [u8]) -> Named<R::File>
-    ensures within { result.length ≤ length path.new }
-    ensures taken { result.length ≡ length (take result.length path.new) }
+pub fn open_named<R: Env + Files + Eprint + Alloc>(
+    rt: &R,
+    path: &mut [u8],
+) -> Option<Named<R::File>>
+    ensures within { IfSome result (λ named. named.length ≤ length path.new) }
+    ensures taken { IfSome result (λ named. named.length ≡ length (take named.length path.new)) }
 {
     let Ok(length) = rt.arg(1, path) else {
         fail(rt, b"path", Error::from_raw_os_error(NAME_TOO_LONG));
-        return Named {
-            file: None,
-            length: 0,
-        };
+        return None;
     };
     match open(rt, &path[..length]) {
-        Ok(file) => Named {
-            file: Some(file),
-            length,
-        },
+        Ok(file) => Some(Named { file, length }),
         Err(why) => {
             fail(rt, &path[..length], why);
-            Named { file: None, length }
+            None
         }
     }
 }
 
-// Writes the bytes that are put, or says why it cannot.
+// Writes the bytes that are put, or says why it cannot. It answers a flag and no Result, since two of its three callers end with it and drop
+// the answer: each would need a `let _ =`.
 pub fn write_out<R: Print + Eprint + Alloc>(rt: &R, out: &[u8], used: usize) -> bool
     requires { used ≤ length out.now }
 {

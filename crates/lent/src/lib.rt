@@ -16,11 +16,10 @@ pub fn apply_delta(book: &mut OrderBook, delta: BookDelta) -> Result<(), Refusal
     book.apply(delta)
 }
 
-// A local is lent to the call above.
-pub fn apply_delta_over(book: OrderBook, delta: BookDelta) -> Applied
+// The parameter is lent to the call above.
+pub fn apply_delta_over(mut book: OrderBook, delta: BookDelta) -> Applied
     ensures { change_of result ≡ applied book delta }
 {
-    let mut book = book;
     let outcome = apply_delta(&mut book, delta);
     Applied { book, outcome }
 }

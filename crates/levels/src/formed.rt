@@ -66,16 +66,10 @@ fn prices_fit(side: Side, prices: &[u32; 128], n: usize) -> bool
     requires { (length prices.now ≡ 128) × (n ≤ 128) }
     ensures { result ≡ in_order side (take n prices.now) && every (within 1 max_price) (take n prices.now) }
 {
-    if n == 0 {
-        return true;
-    }
-    if !ordered(side, prices, n) {
-        return false;
-    }
-    if !fits(prices[0], 1, types::MAX_PRICE) {
-        return false;
-    }
-    fits(prices[n - 1], 1, types::MAX_PRICE)
+    n == 0
+        || ordered(side, prices, n)
+            && fits(prices[0], 1, types::MAX_PRICE)
+            && fits(prices[n - 1], 1, types::MAX_PRICE)
 }
 
 // All bits of the row's numbers, laid over each other: no number is above that.
@@ -112,10 +106,7 @@ fn quantities_fit(row: &[u32; 128]) -> bool
     requires { length row.now ≡ 128 }
     ensures { result ≡ every (within 0 max_quantity) row.now }
 {
-    if all_bits(row) <= types::MAX_QUANTITY {
-        return true;
-    }
-    all_within(row, types::MAX_QUANTITY)
+    all_bits(row) <= types::MAX_QUANTITY || all_within(row, types::MAX_QUANTITY)
 }
 
 // All bits of both rows' numbers from the place `from` to the one before `to`, laid over each other: 0 where each number is.
@@ -161,14 +152,8 @@ fn unused_are_zero<'a>(prices: &'a [u32; 128], quantities: &'a [u32; 128], n: us
 pub fn well_formed(side: Side, lent: SideRows<'_>) -> bool
     ensures { result ≡ well_formed side (levels_in lent.entry) }
 {
-    if 128 < lent.count {
-        return false;
-    }
-    if !prices_fit(side, lent.prices, lent.count) {
-        return false;
-    }
-    if !unused_are_zero(lent.prices, lent.quantities, lent.count) {
-        return false;
-    }
-    quantities_fit(lent.quantities)
+    lent.count <= 128
+        && prices_fit(side, lent.prices, lent.count)
+        && unused_are_zero(lent.prices, lent.quantities, lent.count)
+        && quantities_fit(lent.quantities)
 }

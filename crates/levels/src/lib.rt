@@ -15,6 +15,7 @@ pub mod formed; // formed.rt: whether two rows and a count are a well-formed sid
 
 use lent::SideRows;
 
+// Fixed rows beside a count, and no Vec of levels: no heap is used, and C lends them so.
 #[repr(C)]
 #[derive(Clone, Copy)]
 pub struct Levels {

@@ -1,5 +1,6 @@
 // A snapshot's line: 02, sequence 8, bid count, ask count, levels as price 4 and quantity 4, bids then asks, check. It is read leniently, into tables,
-// which are tested to be a book, written again and compared. It is written from a book that is lent as its rows.
+// which are tested to be a book, written again and compared. It is written from a book that is lent as its rows. The arrays have fixed lengths, since
+// no heap is used.
 ghost use Rattle.std.specs.Prelude.{◌≡◌, true, [], ◌++◌, ◌+◌, ◌*◌, ◌≤◌, length, drop};
 ghost use Rattle.types.specs.Answers.{reply_of};
 ghost use Rattle.types.specs.Written.{written};
@@ -20,7 +21,8 @@ use orderbook::OrderBook;
 use orderbook::lent::BookRows;
 use types::Refusal;
 
-// Writes a side's levels from byte `at` on, and returns the sum of their bytes.
+// Writes a side's levels from byte `at` on, and returns the sum of their bytes. A level is two numbers, and the third, of width 0, writes nothing:
+// it is put by `put3` for the speed that is told there.
 fn put_levels(out: &mut [u8], at: usize, lent: SideRows<'_>) -> u64
     requires { (2 * (at + 8 * lent.count) ≤ length out.old) × (lent.count ≤ 128) }
     ensures { Part (level_bytes (levels (held_in lent.entry)) []) at out.old out.new result }

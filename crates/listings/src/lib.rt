@@ -1,5 +1,6 @@
 // Any listing of a book's levels as one value, written as price, quantity, price, quantity to the front of one lent buffer. The book is lent as
-// its rows, and the calls that take the record by value are thin over those. The rest of the buffer keeps its numbers; on a refusal all of it does.
+// its rows, and the calls that take the record by value, which docs/PROMISES.md promises, are thin over those. The rest of the buffer keeps its
+// numbers; on a refusal all of it does.
 #![tactic(auto)]
 
 ghost use Rattle.std.specs.Prelude.{◌≡◌, length};

@@ -1,5 +1,5 @@
 // Each listing of a book by value, under the original's name; a second name goes by the one before it. The filled front of the buffer is handed
-// back, empty on a refusal.
+// back, empty on a refusal. Second names are the original's, each a promise in docs/PROMISES.md.
 ghost use Rattle.std.specs.Prelude.{◌≡◌, length};
 ghost use Rattle.types.specs.declared.Side.TheVariants.{Bid, Ask};
 ghost use Rattle.types.specs.Written.{fitted};

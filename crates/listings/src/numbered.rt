@@ -1,4 +1,4 @@
-// The listings by their numbers, for callers that are not Rattle.
+// The listings by their numbers, for callers that are not Rattle: the C interface hands over the number of a kind, and no enum.
 ghost use Rattle.std.specs.Prelude.{◌≡◌};
 ghost use Rattle.types.specs.Answers.{reply_of};
 ghost use Rattle.listings.specs.Numbered.{narrowed, listing_named};
@@ -10,10 +10,7 @@ use types::{Price, Refusal, Side};
 fn narrowed(number: u64) -> Price
     ensures { result ≡ narrowed number }
 {
-    if number > 4_294_967_295 {
-        return 0;
-    }
-    number as u32
+    u32::try_from(number).unwrap_or(0)
 }
 
 // The listings from 0 to 2; 2 for any other number. `from` is a count, or the lower price of a range up to `to`.

@@ -66,12 +66,6 @@ impl Plan {
     }
 }
 
-fn lesser(a: usize, b: usize) -> usize
-    ensures { result ≡ min a b }
-{
-    if a < b { a } else { b }
-}
-
 // The best `bids` bids and the best `asks` asks.
 fn best_runs(bids: usize, asks: usize, counts: Counts) -> Plan
     requires { (counts.bids ≤ 128) × (counts.asks ≤ 128) }
@@ -80,12 +74,12 @@ fn best_runs(bids: usize, asks: usize, counts: Counts) -> Plan
     taking(
         Run {
             from: 0,
-            count: lesser(bids, counts.bids),
+            count: bids.min(counts.bids),
             turned: false,
         },
         Run {
             from: 0,
-            count: lesser(asks, counts.asks),
+            count: asks.min(counts.asks),
             turned: false,
         },
     )
@@ -95,13 +89,7 @@ fn best_runs(bids: usize, asks: usize, counts: Counts) -> Plan
 fn is_range(lo: Price, hi: Price) -> bool
     ensures { result ≡ is_range lo hi }
 {
-    if !types::is_price(lo) {
-        return false;
-    }
-    if !types::is_price(hi) {
-        return false;
-    }
-    lo <= hi
+    types::is_price(lo) && types::is_price(hi) && lo <= hi
 }
 
 // The levels from the price `first` to the price `last`, which is not ahead of it.

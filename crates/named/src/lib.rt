@@ -1,5 +1,6 @@
 // Each question of a book that is handed over by value, under the original's name; thin, over the questions of one kind (kinds.rt). A crate's
-// methods must stand with their type, so these are functions of a book, as the listings are.
+// methods must stand with their type, so these are functions of a book, as the listings are. Second names are the original's, each a promise in
+// docs/PROMISES.md, thin over one call.
 #![tactic(auto)]
 
 pub mod kinds; // kinds.rt: the questions of one kind, of a book by value

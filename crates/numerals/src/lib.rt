@@ -10,9 +10,9 @@ ghost use Rattle.numerals.specs.Inner.Sizes.{size_of};
 use amount::Amount;
 
 // The sizes of the largest and the least i64.
-const LARGEST: u64 = 9_223_372_036_854_775_807;
+const LARGEST: u64 = i64::MAX as u64;
 
-const LEAST: u64 = 9_223_372_036_854_775_808;
+const LEAST: u64 = LARGEST + 1;
 
 // A number with one more digit.
 fn with_digit(n: u64, byte: u8, limit: u64) -> Option<u64>

@@ -1,4 +1,5 @@
-// The operations on the book. Their numbers are those of the lists that are replayed.
+// The operations on the book. Their numbers are those of the lists that are replayed:
+// an enum would be made of a number by one match and matched again, no plainer.
 #![tactic(auto)]
 
 use fields::{delta, number, side, small};
@@ -43,7 +44,7 @@ fn written(book: &OrderBook, line: &[u8], list: &mut [u32]) -> Result<u64, Refus
     listings::write(*book, listing(line)?, list)
 }
 
-// A listing in a buffer with room for any.
+// A listing in a buffer with room for any: an array, since memory is fixed and no heap is used.
 fn listed(rt: &impl Print, book: &OrderBook, line: &[u8]) {
     let mut list = [0u32; 512];
     let answer = written(book, line, &mut list);

@@ -1,4 +1,5 @@
-// The operations on lines of the feed, and on the receiver. Their numbers are those of the lists that are replayed.
+// The operations on lines of the feed, and on the receiver. Their numbers are those of the lists that are replayed:
+// an enum would be made of a number by one match and matched again, no plainer.
 #![tactic(auto)]
 
 ghost use Rattle.std.specs.Prelude.{◌≤◌, length};
@@ -100,6 +101,7 @@ fn spoil(rt: &impl Print, line: &[u8], out: &mut [u8]) {
     output::value(rt, tries.frames);
 }
 
+// A line is read and written in an array: memory is fixed and no heap is used.
 pub fn step(rt: &impl Print, book: &mut OrderBook, kind: u64, line: &[u8]) {
     let mut memory = [0u8; 65536];
     let out: &mut [u8] = &mut memory;

@@ -1,4 +1,5 @@
-// A book's changes, in place and by value: its rows are lent one by one, and the counts beside them are put back.
+// A book's changes, in place and by value: its rows are lent one by one, and the counts beside them are put back. docs/PROMISES.md promises the calls
+// by value; they are thin over the lent form.
 ghost use Rattle.std.specs.Prelude.{◌≡◌};
 ghost use Rattle.types.specs.Answers.{reply_of};
 ghost use Rattle.orderbook.specs.Apply.{change_of, applied, cleared, side_cleared};

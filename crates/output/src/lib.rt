@@ -22,6 +22,7 @@ pub fn value(rt: &impl Print, n: u64) {
     number(rt, n);
 }
 
+// A sign and a size behind a space, one function: Display would be one impl used at this place alone, no plainer.
 fn signed(rt: &impl Print, whole: Whole) {
     let sign = if whole.negative { " -" } else { " " };
     let _ = rt.print(format_args!("{sign}{}", whole.size));
@@ -46,7 +47,8 @@ fn places(size: u64, denominator: u64) -> Option<(u64, u64)> {
     Some((size.checked_div(denominator)?, millionths))
 }
 
-// A quotient cut to 6 places; one that shows as zero has no sign. No quotient of a book has a denominator that is too large for them.
+// A quotient cut to 6 places; one that shows as zero has no sign. No quotient of a book has a denominator that is too large for them. That form
+// is this program's own, one function for one place: Display would be no plainer.
 fn cut(rt: &impl Print, q: Quotient) {
     let numerator = q.numerator;
     let Some((units, millionths)) = places(numerator.size(), q.denominator) else {

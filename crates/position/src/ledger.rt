@@ -1,5 +1,6 @@
 // The ledger as a record: new, tested, and changed, in place and by value. Its rows are lent one by one, and the totals beside them are put back.
 // Each call takes any record: it tests it first, and leaves the same record with a refusal.
+// The calls by value stay beside those in place because docs/PROMISES.md promises both; they are thin over the lent form.
 ghost use Rattle.std.specs.Prelude.{◌≡◌};
 ghost use Rattle.types.specs.Answers.{reply_of};
 ghost use Rattle.position.specs.Ledger.{is_ledger, change_of, fresh, created, booked, deposited};

@@ -12,6 +12,7 @@ pub mod rows; // rows.rt: a ledger lent as its rows: tested, and changed in plac
 mod ledger; // ledger.rt: new, is_ledger, apply, apply_fill, deposit
 
 // A place for each symbol in each row: signed lots, their average price (0 when flat), and the profit realized so far.
+// The rows are arrays: C holds the record by this layout, and its memory is fixed, with no heap.
 #[repr(C)]
 #[derive(Clone, Copy)]
 pub struct PositionLedger {

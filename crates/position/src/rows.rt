@@ -1,5 +1,6 @@
 // A ledger lent as its three rows (quantities, averages, realized profits), with its totals beside them: no row is copied, and a fill is booked to
 // the rows where they stand. Each promise is of the ledger that the rows and the totals make (specs/Lent.antt).
+// The rows that change are lent one by one, as C lends them: of a struct of `&mut` rows a clause names each by its place alone, no plainer.
 ghost use Rattle.std.specs.Prelude.{◌≡◌, true};
 ghost use Rattle.types.specs.Answers.{reply_of};
 ghost use Rattle.holding.specs.Inner.Sizes.{FillIn};

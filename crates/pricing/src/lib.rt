@@ -15,7 +15,8 @@ use types::MAX_PRICE;
 
 pub mod rows; // rows.rt: sums and searches over positions in lent rows
 
-// What is summed over the positions.
+// What is summed over the positions. An enum, since the definitions name what is summed by it (specs/Prices.antt): of a closure the clauses of each
+// sum would say what it asks and answers, no plainer.
 #[derive(Clone, Copy)]
 pub enum Measure {
     Worth,
@@ -30,7 +31,7 @@ fn are_within(prices: &[u32]) -> bool
     prices.iter().all(|price| *price <= MAX_PRICE)
 }
 
-// Whether these are 32 numbers, each a price or 0 for none.
+// Whether these are 32 numbers, each a price or 0 for none: C hands the row of prices over so, with no Option in it.
 pub fn are_prices(prices: &[u32]) -> bool
     ensures { result ≡ are_prices prices.now }
 {

@@ -12,7 +12,7 @@ ghost use Rattle.printing.specs.Printed.{next as next_of, answer_number, outcome
 pub mod ends; // ends.rt: the end state
 
 use decimals::put_pair;
-use receiver::{Receiver, rows};
+use receiver::Receiver;
 use told::Told;
 use types::Refusal;
 
@@ -29,27 +29,6 @@ fn outcome_number(outcome: Result<(), Refusal>) -> u64
     Told::of(outcome).number
 }
 
-// What a line makes of a receiver, where it stands: its rows are lent one by one, and what stands beside them is put back.
-fn take_line(receiver: &mut Receiver, line: &[u8]) -> Result<(), Refusal>
-    ensures { record { receiver = receiver.new; reply = reply_of result } ≡ taken receiver.old line.now }
-{
-    let counts = receiver.book.counts();
-    let turned = rows::take_line(
-        &mut receiver.book.bids.prices,
-        &mut receiver.book.bids.quantities,
-        &mut receiver.book.asks.prices,
-        &mut receiver.book.asks.quantities,
-        receiver.state,
-        counts,
-        line,
-    );
-    receiver.state = turned.state;
-    receiver.book.bids.count = turned.counts.bids;
-    receiver.book.asks.count = turned.counts.asks;
-    receiver.book.sequence = turned.counts.sequence;
-    turned.outcome
-}
-
 impl Heard {
     // Takes one line, and puts its outcome into the output; answers the place behind it.
     #[tactic(auto, using(crate::proofs::Texts::short_outcomes))]
@@ -60,7 +39,7 @@ impl Heard {
         ensures puts { Puts (outcome_line (next_of self.old.number) (taken self.old.receiver line.now)) at out.old out.new result }
         ensures used_bound { result ≤ at + 24 }
     {
-        let outcome = take_line(&mut self.receiver, line);
+        let outcome = self.receiver.apply(line);
         self.number = self.number.saturating_add(1);
         put_pair(out, at, self.number, outcome_number(outcome))
     }

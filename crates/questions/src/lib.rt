@@ -1,5 +1,5 @@
 // Any question to a book as one value, and one call that answers any of them, over a book lent as its rows; the call that takes the record by
-// value is thin over it. Second names share one question. What the receiver and the bindings ask goes by this.
+// value, which docs/PROMISES.md promises, is thin over it. Second names share one question. What the receiver and the bindings ask goes by this.
 #![tactic(auto)]
 
 ghost use Rattle.std.specs.Prelude.{◌≡◌};

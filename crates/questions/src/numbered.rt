@@ -1,4 +1,4 @@
-// The questions by their numbers, for callers that are not Rattle.
+// The questions by their numbers, for callers that are not Rattle: the C interface hands over the number of a kind, and no enum.
 ghost use Rattle.std.specs.Prelude.{◌≡◌};
 ghost use Rattle.types.specs.Answers.{reply_of};
 ghost use Rattle.questions.specs.Numbered.{question_named};

@@ -1,8 +1,10 @@
 // The receiver of a feed: it takes lines, and holds a book that it shows while it is live. Its state is an enum, with room for a third
-// state. A line goes to a receiver that is lent, its book as four rows (rows.rt); the call that takes the record by value is thin over it.
+// state. A line goes to a receiver that is lent, its book as four rows (rows.rt); the calls over a record, in
+// place and by value, are thin over it. Those by value stay, since docs/PROMISES.md promises them.
 #![tactic(auto)]
 
 ghost use Rattle.std.specs.Prelude.{◌≡◌};
+ghost use Rattle.types.specs.Answers.{reply_of};
 ghost use Rattle.receiver.specs.Numbers.{state_if, state_number};
 ghost use Rattle.receiver.specs.Turns.{is_receiver, start, turn_of, taken};
 
@@ -69,9 +71,10 @@ impl Receiver {
         self.book.is_book()
     }
 
-    // What a line makes of a receiver, its line feed included; bytes after the last line feed are one line.
-    pub fn take_line(mut self, line: &[u8]) -> Taken
-        ensures { turn_of result ≡ taken self line.now }
+    // What a line makes of a receiver, its line feed included; bytes after the last line feed are one line. Its rows are lent one by one, and
+    // what stands beside them is put back.
+    pub fn apply(&mut self, line: &[u8]) -> Result<(), Refusal>
+        ensures { record { receiver = self.new; reply = reply_of result } ≡ taken self.old line.now }
     {
         let counts = self.book.counts();
         let turned = rows::take_line(
@@ -87,9 +90,17 @@ impl Receiver {
         self.book.bids.count = turned.counts.bids;
         self.book.asks.count = turned.counts.asks;
         self.book.sequence = turned.counts.sequence;
+        turned.outcome
+    }
+
+    // The same by value.
+    pub fn take_line(mut self, line: &[u8]) -> Taken
+        ensures { turn_of result ≡ taken self line.now }
+    {
+        let outcome = self.apply(line);
         Taken {
             receiver: self,
-            outcome: turned.outcome,
+            outcome,
         }
     }
 }

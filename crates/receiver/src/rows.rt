@@ -37,7 +37,7 @@ fn loads(state: State, held: u64, sequence: u64) -> bool
     }
 }
 
-// Puts a book into the rows.
+// Puts a book into the rows. Each array has a name first, since the borrow checker takes no array straight from a field.
 fn load(
     bp: &mut [u32; 128],
     bq: &mut [u32; 128],
@@ -77,9 +77,8 @@ fn take_other(
     let book = match read {
         Ok(book) => book,
         Err(why) => {
-            let unchanged = state;
             return Turned {
-                state: unchanged,
+                state,
                 counts,
                 outcome: Err(why),
             };

@@ -42,7 +42,7 @@ impl State {
         }
     }
 
-    // Does what a line says, and prints the answer.
+    // Does what a line says, and prints the answer. A kind is a number of the list: an enum would be made of it by one match and matched again.
     fn done(&mut self, rt: &impl Print, line: &[u8]) {
         let kind = fields::number(line, 0);
         match kind {

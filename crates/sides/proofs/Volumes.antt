@@ -1,10 +1,11 @@
 -- The quantity of a side's best levels, from the row of its quantities, and how large it gets.
-use Prim.Native.Nat.{ℕ, ◌≤◌, ◌<◌}
+use Prim.Native.Nat.{ℕ, ◌≤◌, min}
 use native.Mathlib.Omega.{arith}
 use mathlib.Core.Path.{◌≡◌, ap, sym, ◌∙◌}
 use mathlib.Core.List.{List}
 use lib.ListN.{length, take}
 use lib.Seq.{take_all, take-take}
+use Rattle.std.proofs.lemmas.List.{take_min}
 use Rattle.types.specs.Limits.{max_volume}
 use Rattle.levels.specs.Table.{levels, rows}
 use Rattle.levels.proofs.Tables.{levels-length}
@@ -34,11 +35,11 @@ module _ (p q : List ℕ) (n : ℕ) (w : Limited p q n) where
   whole_small : sum_of (take n q) ≤ max_volume
   whole_small = omega (arith, whole, total_limit (levels (rows p q n)) w.limits (omega (arith, counted, w.few)))
 
-  -- the best k of them, of fewer than all or of all
-  pub part_total : (k : ℕ) → k < n → {r : ℕ} → r ≡ sum_of (take k q) → (r ≡ best_total k (levels (rows p q n))) × (r ≤ max_volume)
-  part_total k h e =
-      let d = ap sum_of (take-take k n q (omega arith)) in
+  -- the best k of them, and all where there are fewer
+  best_part : (k : ℕ) → k ≤ n → {r : ℕ} → r ≡ sum_of (take k q) → (r ≡ best_total k (levels (rows p q n))) × (r ≤ max_volume)
+  best_part k h e =
+      let d = ap sum_of (take-take k n q h) in
       (e ∙ sym (total-best (rows p q n) (w.long_prices, w.long_quantities, w.few) k ∙ d), omega (arith, sum-take k (take n q), whole_small))
 
-  pub all-total : (k : ℕ) → n ≤ k → {r : ℕ} → r ≡ sum_of (take n q) → (r ≡ best_total k (levels (rows p q n))) × (r ≤ max_volume)
-  all-total k h e = rw (take_all k (levels (rows p q n)) (omega (arith, counted))) (e ∙ whole, omega (arith, whole_small))
+  pub least_total : (k m : ℕ) → m ≡ min k n → {r : ℕ} → r ≡ sum_of (take m q) → (r ≡ best_total k (levels (rows p q n))) × (r ≤ max_volume)
+  least_total k m h e = rw (sym (take_min k (levels (rows p q n))), counted, sym h) (best_part m (omega (arith, h)) e)

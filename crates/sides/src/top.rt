@@ -18,13 +18,14 @@ pub fn best_of(lent: SideRows<'_>) -> Option<PriceLevel>
     requires { lent.count ≤ 128 }
     ensures { result ≡ best_of (levels (levels_in lent.entry)) }
 {
-    if 0 < lent.count {
-        return Some(PriceLevel {
+    if lent.count == 0 {
+        None
+    } else {
+        Some(PriceLevel {
             price: lent.prices[0],
             quantity: lent.quantities[0],
-        });
+        })
     }
-    None
 }
 
 // Whether the best bid is below the best ask, if both exist.

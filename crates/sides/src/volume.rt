@@ -16,10 +16,7 @@ pub fn best_total(lent: SideRows<'_>, k: usize) -> u64
     requires { OfBook lent }
     ensures { (result ≡ best_total k (levels (levels_in lent.entry))) × (result ≤ 128000000000) }
 {
-    if k < lent.count {
-        return walks::total(lent.quantities, k);
-    }
-    walks::total(lent.quantities, lent.count)
+    walks::total(lent.quantities, k.min(lent.count))
 }
 
 pub fn imbalance(bid: u64, ask: u64) -> Result<Quotient, Refusal>

@@ -26,6 +26,11 @@ module _ where
   pub take_line : One R.take_line.Reads.Learnt
   take_line κs a s t = one-turn _
 
+-- a receiver that is changed in place: the outcome, and the receiver as the call returns
+module _ where
+  pub apply : OneWith R.apply.Reads.Learnt (λ κs s. s.0.now)
+  apply κs a s t x y p q = (one_answer _ x y (ap (λ (u : Turn). u.reply) p) (ap (λ (u : Turn). u.reply) q), ap (λ (u : Turn). u.receiver) (p ∙ sym q))
+
 -- what the rows, the state and the counts make, and the outcome's reply
 abbrev made : Rows → Turned → Turn
 made w r = record { receiver = record { state = r.state; book = book_of_rows w r.counts }; reply = reply_of r.outcome }

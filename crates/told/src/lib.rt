@@ -12,7 +12,8 @@ pub struct Whole {
     pub negative: bool,
 }
 
-// The number of an answer, and the values that it carries, at most four; those behind `count` are 0.
+// The number of an answer, and the values that it carries, at most four; those behind `count` are 0. Named fields and a count, and no slice: the C
+// interface hands them over so.
 #[repr(C)]
 #[derive(Clone, Copy)]
 pub struct Told {

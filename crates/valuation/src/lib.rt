@@ -1,5 +1,5 @@
 // What a ledger is worth at given prices. A ledger is lent to be read and asked where it is (rows.rt); the calls that take the record by value are
-// thin over that.
+// thin over that, and stay because docs/PROMISES.md promises them.
 #![tactic(auto)]
 
 ghost use Rattle.std.specs.Prelude.{◌≡◌};

@@ -42,7 +42,8 @@ pub fn fill(lent: SideRows<'_>, target: u32) -> Option<u64>
     None
 }
 
-// The price of the first level at which the running total reaches `target`, else the last level's, and 0 if there is none.
+// The price of the first level at which the running total reaches `target`, else the last level's, and 0 if there is none: specs/Walk's own value
+// there, which an Option would put in other words.
 #[tactic(auto, using(crate::proofs::Turns::reach_last, crate::proofs::Turns::reach_more, crate::proofs::Turns::reach_end))]
 pub fn reach(lent: SideRows<'_>, target: u64) -> u32
     requires { lent.count ≤ 128 }

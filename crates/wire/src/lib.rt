@@ -139,7 +139,7 @@ pub fn finish(out: &mut [u8], at: usize, sum: u64)
     out[2 * at + 2] = 10;
 }
 
-// Whether two slices hold the same bytes.
+// Whether two slices hold the same bytes. It stays a function of its own: must-fail/last_byte_alone_compared.edit holds to it.
 pub fn same(a: &[u8], b: &[u8]) -> bool
     ensures { (result ≡ true → a.now ≡ b.now) × (a.now ≡ b.now → result ≡ true) }
 {

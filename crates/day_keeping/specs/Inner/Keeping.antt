@@ -42,6 +42,7 @@ ended Going = Ended
 ended Ended = Ended
 ended Failed = Failed
 
+-- the text has ended: nothing more is read, and what went wrong stays so
 abbrev pub finished : Collected → Collected
 finished d = record { line = d.line; opening = d.opening; reading = ended d.reading }
 

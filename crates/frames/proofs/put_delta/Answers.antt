@@ -1,6 +1,4 @@
 -- `frames::put_delta` meets its contract: the parts join to the frame's bytes, and the check byte and line feed end its line.
-use mathlib.Core.Path.{◌∙◌}
-use native.Mathlib.Omega.{arith}
 use Rattle.frames.proofs.Writing.{delta-written}
 use Rattle.frames.proofs.put_delta.Goals as goal
 

@@ -3,7 +3,7 @@ use mathlib.Core.List.{[]}
 use Prim.Native.Nat.{◌+◌}
 use native.Mathlib.Omega.{arith}
 use Rattle.wire.specs.Wire.{be}
-use Rattle.wire.proofs.Places.{small_sum, then}
+use Rattle.wire.proofs.Places.{then}
 use Rattle.frames.proofs.put_numbers.Goals as goal
 
 pub returns : goal.returns

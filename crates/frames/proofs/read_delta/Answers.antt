@@ -15,32 +15,26 @@ use Rattle.deltas.specs.declared.BookDelta.{BookDelta}
 use Rattle.frames.proofs.Whole.{delta-length}
 use Rattle.frames.proofs.Reading.{no_delta, delta_read_lem, not-whole, same_self}
 use Rattle.frames.proofs.Bytes.{own_digits, line_feed_lem, delta-bytes, in_bytes, its_line}
+use Rattle.frames.proofs.read_delta.Goals.{then-line-ne41-via-then-line-ne41, then-line-ne41-via-else-line-ne41+then-line-ne10, then-line-ne41-via-else-line-ne41+else-line-ne10+then-not-read_bytes, then-line-ne41-via-else-line-ne41+else-line-ne10+else-not-read_bytes+then-not-is_delta}
 use Rattle.frames.proofs.read_delta.Goals as goal
 
 pub returns-then-line-ne41 : goal.returns-then-line-ne41
-returns-then-line-ne41 c = let l = c.args.line.now in sym (no_delta l (λ w e. c.if-line-ne41.true (ap length e ∙ delta-length (delta_in l))))
-
-pub returns-then-line-ne10 : goal.returns-then-line-ne10
-returns-then-line-ne10 c =
+returns-then-line-ne41 c =
     let l = c.args.line.now in
-    sym (no_delta l (λ w e. c.if-line-ne10.true (ap (λ (x : List ℕ). get_or x 40 0) e ∙ line_feed_lem (delta_in l))))
-
-pub returns-then-not-read_bytes : goal.returns-then-not-read_bytes
-returns-then-not-read_bytes c =
-    let r = c.read_bytes in
-    let l = c.args.line.now in
-    sym (no_delta l (λ w e.
-    let t = r.ensures.told (ap (take 40) e ∙ own_digits (delta_in l) ∙ ap (λ (x : List ℕ). digits_of (spell 20 x)) (sym e)) in
-    false≢true (sym (ap not t) ∙ c.if-not-read_bytes.true-raw)))
-
-pub returns-then-not-is_delta : goal.returns-then-not-is_delta
-returns-then-not-is_delta c =
-    let l = c.args.line.now in
-    sym (no_delta l (λ w e.
-    false≢true
-    (sym (failed c.is_delta.ensures c.if-not-is_delta.true-raw)
-    ∙ ap is_delta (c.read_bytes.ensures.bytes ∙ append-nil (spell 20 l))
-    ∙ ap (λ (x : List ℕ). is_delta (spell 20 x)) e ∙ delta-bytes (delta_in l))))
+    sym (no_delta l (λ v e.
+    elim c.then-line-ne41.branch [
+      | then-line-ne41-via-then-line-ne41 w ↦ w.if-line-ne41.true (ap length e ∙ delta-length (delta_in l))
+      | then-line-ne41-via-else-line-ne41+then-line-ne10 w ↦
+          w.if-line-ne10.true (ap (λ (x : List ℕ). get_or x 40 0) e ∙ line_feed_lem (delta_in l))
+      | then-line-ne41-via-else-line-ne41+else-line-ne10+then-not-read_bytes w ↦
+          let t = w.read_bytes.ensures.told (ap (take 40) e ∙ own_digits (delta_in l) ∙ ap (λ (x : List ℕ). digits_of (spell 20 x)) (sym e)) in
+          false≢true (sym (ap not t) ∙ w.if-not-read_bytes.true-raw)
+      | then-line-ne41-via-else-line-ne41+else-line-ne10+else-not-read_bytes+then-not-is_delta w ↦
+          false≢true
+          (sym (failed w.is_delta.ensures w.if-not-is_delta.true-raw)
+          ∙ ap is_delta (w.read_bytes.ensures.bytes ∙ append-nil (spell 20 l))
+          ∙ ap (λ (x : List ℕ). is_delta (spell 20 x)) e ∙ delta-bytes (delta_in l))
+    ]))
 
 pub returns : goal.returns
 returns c =

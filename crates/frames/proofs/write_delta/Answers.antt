@@ -1,5 +1,5 @@
 -- `frames::write_delta` meets its contract: the limits are tested, then the room, and then the line is put at the front.
-use mathlib.Core.Path.{sym, ap, ◌∙◌}
+use mathlib.Core.Path.{ap, ◌∙◌}
 use mathlib.Core.List.{◌++◌}
 use native.Mathlib.Omega.{arith}
 use lib.ListN.{drop}
