@@ -1,5 +1,5 @@
 -- The price of trading a target and the price reached at a volume: how large the cost gets, and each test that can refuse a volume.
-use Rattle.std.specs.Prelude.{Ok}
+use Rattle.std.specs.Prelude.{Ok, None}
 use Rattle.std.specs.Option.{ok_or}
 use Prim.Native.Nat.{ℕ, ◌≤◌, ◌<◌}
 use native.Mathlib.Omega.{arith}
@@ -25,6 +25,10 @@ module _ (target : ℕ) (ls : List PriceLevel) where
   filled why cost e =
       by (leb target (total_of ls)) (λ t. let f = rw t at e in (t, cc))
       (λ t. let f = rw t at e in let z : ◌≡◌ {A = ℕ} 0 1 = cc in absurd (omega arith))
+
+  -- a target that is not filled is more than the levels hold
+  pub unfilled : fill_of target ls ≡ None → leb target (total_of ls) ≡ false
+  unfilled e = by (leb target (total_of ls)) (λ t. let f = rw t at e in let z : ◌≡◌ {A = ℕ} 0 1 = cc in absurd (omega arith)) (λ t. t)
 
   -- the cost fits an i64
   pub cost_small : every in_limits ls ≡ true → target ≤ max_quantity → cost_of target ls < 9223372036854775808

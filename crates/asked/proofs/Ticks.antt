@@ -21,7 +21,7 @@ use Rattle.sides.specs.Inner.Limits.{OfBook, PricesFit}
 use Rattle.sides.specs.Questions.{tick_size}
 
 -- a row of 128 places whose first n hold at most the largest price
-abbrev Fit : List ℕ → ℕ → Type 0
+abbrev pub Fit : List ℕ → ℕ → Type 0
 Fit xs n = (length xs ≡ max_levels) × (n ≤ max_levels) × (every (λ x. leb x max_price) (take n xs) ≡ true)
 
 -- a side that is lent has rows of 128 places
@@ -46,13 +46,21 @@ module _ (p q : List ℕ) (n m : ℕ) (f : Fit p n) (g : Fit q m) where
       let few = every-both (λ x. leb x max_price) _ _ (gaps_bound max_price (take n p) f.2) (gaps_bound max_price (take m q) g.2) in
       least_of_lem max_price _ some few ∙ ap done (least_append max_price (gaps_of (take n p)) (gaps_of (take m q)))
 
--- the prices of a side within the limits
-pub prices_fit : {r : SideRows} → OfBook r → PricesFit r
-prices_fit {r} k = let w : Sized (levels_in r) = record { ps = r.long_prices; qs = r.long_quantities } in record { few = k.few; cheap = rw (levels-prices (levels_in r) w k.few) at (prices_bound (levels (levels_in r)) k.limits) }
+-- the prices of a table within the limits
+pub table_fits : (t : Levels) → Sized t → t.count ≤ max_levels → every in_limits (levels t) ≡ true → Fit t.prices t.count
+table_fits t w n h = (w.ps, n, rw (levels-prices t w n) at (prices_bound (levels t) h))
 
--- what is asked of two sides' levels is asked of their rows of prices
+-- what is asked of two tables is asked of their rows of prices
+pub tick_levels : (b a : Levels) → Sized b → Sized a → b.count ≤ max_levels → a.count ≤ max_levels → tick_size (levels b) (levels a) ≡ least_of (gaps_of (take b.count b.prices) ++ gaps_of (take a.count a.prices))
+tick_levels b a v w n m = rw (levels-prices b v n, levels-prices a w m)
+
+-- the same of a side that is lent
+lent_sized : (r : SideRows) → Sized (levels_in r)
+lent_sized r = record { ps = r.long_prices; qs = r.long_quantities }
+
+pub prices_fit : {r : SideRows} → OfBook r → PricesFit r
+prices_fit {r} k = let w = table_fits (levels_in r) (lent_sized r) k.few k.limits in record { few = w.1; cheap = w.2 }
+
+-- and of two
 pub tick_lent : {b a : SideRows} → OfBook b → OfBook a → tick_size (levels (levels_in b)) (levels (levels_in a)) ≡ least_of (gaps_of (take b.count b.prices.now) ++ gaps_of (take a.count a.prices.now))
-tick_lent {b} {a} k l =
-    let v : Sized (levels_in b) = record { ps = b.long_prices; qs = b.long_quantities } in
-    let w : Sized (levels_in a) = record { ps = a.long_prices; qs = a.long_quantities } in
-    rw (levels-prices (levels_in b) v k.few, levels-prices (levels_in a) w l.few)
+tick_lent {b} {a} k l = tick_levels (levels_in b) (levels_in a) (lent_sized b) (lent_sized a) k.few l.few

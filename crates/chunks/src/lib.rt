@@ -9,7 +9,8 @@ ghost use Rattle.chunks.specs.Chunks.{whole_end, too_long};
 const TOO_LONG: usize = types::MAX_DIGITS + 2;
 
 // The length of a text's lines, without what follows its last line feed. The loop is no `rposition`, which has no index:
-// must-fail/read_before_the_start.edit holds to it.
+// must-fail/read_before_the_start.edit holds to it. Not inlined, since the loop would carry along what its callers make of the index.
+#[inline(never)]
 #[tactic(auto, using(crate::proofs::Kept::ended_here, crate::proofs::Kept::ended_before))]
 pub fn whole_lines(text: &[u8]) -> usize
     ensures value { result ≡ whole_end text.now }

@@ -1,13 +1,31 @@
 -- Fills as numbers: what their test says of the numbers, and the fills of a list one after another.
 use Rattle.std.specs.Prelude.{slice_index_or, unsigned_abs}
-use Rattle.std.proofs.Common.{◌≡◌, ℕ, zero, suc, ◌-◌, ◌*◌, ◌/◌, ◌<◌, ◌≤◌, Bool, true, false, List, [], ◌∷◌, ◌++◌, length, drop, ℤ, pos, sym, refl, ap, ◌∙◌, arith, length-drop}
+use Rattle.std.proofs.Common.{◌≡◌, ℕ, zero, suc, ◌-◌, ◌*◌, ◌/◌, ◌<◌, ◌≤◌, Bool, true, false, not, List, [], ◌∷◌, ◌++◌, length, drop, ℤ, pos, nat_abs, sym, refl, ap, ◌∙◌, arith, length-drop, leb-true}
+use mathlib.Core.Bool.{and-eq-true_iff}
+use lib.Signed.{lt_z}
 use Rattle.holding.specs.declared.Fill.{Fill}
 use Rattle.types.specs.Replies.{done, refuse, number_of, values_of, if_within}
 use Rattle.types.specs.declared.Refusal.{Refusal}
 use Rattle.types.specs.Named.{side_named}
 use Rattle.types.specs.declared.Side.{Side}
 use Rattle.amount.specs.Whole.{amount}
-use Rattle.day.specs.Numbers.{max_word, is_up_to, is_first, fill_by, first_fill, first_fills, fills_by}
+use Rattle.day.specs.Numbers.{max_word, is_up_to, are_fill, is_first, fill_by, first_fill, first_fills, fills_by}
+
+up_to_lem : (most : ℕ) (z : ℤ) → is_up_to most z ≡ true → nat_abs z ≤ most
+up_to_lem most z e = leb-true _ _ ((and-eq-true_iff (not (lt_z z (pos 0))) _).0 e).1
+
+-- numbers that are a fill fit their bits
+pub record Fitting (symbol quantity price : ℤ) : Type 0 where
+  pub symbol_fits : nat_abs symbol ≤ max_word
+  pub quantity_fits_lem : nat_abs quantity ≤ max_word
+  pub price-fits : nat_abs price ≤ max_word
+
+pub fitting : (symbol side quantity price : ℤ) → are_fill symbol side quantity price ≡ true → Fitting symbol quantity price
+fitting symbol side quantity price e =
+    let a = (and-eq-true_iff (is_up_to max_word symbol) _).0 e in
+    let b = (and-eq-true_iff (is_up_to 1 side) _).0 a.1 in
+    let c = (and-eq-true_iff (is_up_to max_word quantity) _).0 b.1 in
+    record { symbol_fits = up_to_lem max_word symbol a.0; quantity_fits_lem = up_to_lem max_word quantity c.0; price-fits = up_to_lem max_word price c.1 }
 
 -- a value that answers a test: the test is passed, and it is the value behind it
 pub record Within {A : Type 0} (t : Bool) (a v : A) : Type 0 where

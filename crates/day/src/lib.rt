@@ -34,7 +34,9 @@ fn book_all(ledger: &mut PositionLedger, fills: &[Fill]) -> RowsDay
 {
     let mut taken = 0;
     for fill in fills {
-        let outcome = ledger.apply(*fill);
+        let booked = ledger.apply_fill(*fill);
+        let outcome = booked.outcome;
+        *ledger = booked.ledger;
         let Ok(()) = outcome else {
             return RowsDay { taken, outcome };
         };

@@ -1,36 +1,19 @@
 -- However many fills a text says, no more are kept than there is room for.
-use Prim.Native.Nat.{ℕ, ◌+◌, ◌≤◌, ◌<◌}
-use mathlib.Core.Bool.{true, false}
-use mathlib.Core.Path.{◌≡◌, subst}
+use Prim.Native.Nat.{ℕ, ◌≤◌}
+use mathlib.Core.Path.{subst}
 use mathlib.Core.List.{List, [], ◌∷◌, ◌++◌}
 use native.Mathlib.Omega.{arith}
-use borrow.Author.Tests.{ltb-true}
 use lib.Dec.{eqb, ltb}
 use lib.ListN.{length}
-use Rattle.std.specs.Option.{is_some}
 use Rattle.types.proofs.Booleans.{by}
-use Rattle.day_lines.specs.Lines.{max_fills, max_line, said}
-use Rattle.day_lines.specs.declared.Said.{Said}
-use Rattle.day_lines.specs.declared.Said.TheVariants as L
-use Rattle.day_keeping.specs.Inner.Keeping.{Kept, is_going, line_taken, line_ended}
+use Rattle.day_lines.specs.Lines.{max_line, said}
+use Rattle.day_keeping.specs.Inner.Keeping.{Kept, is_going, line_ended}
+use Rattle.day_keeping.proofs.Lines.{few_fills}
 use Rattle.day_collecting.specs.Inner.Collecting.{last_ended, text_taken, KeptOf}
-
-line-few : (s : Said) (k : Kept) → k.fills ≤ 100000 → (line_taken s k).fills ≤ 100000
-line-few L.Nothing k l = l
-line-few (L.Cash cash) k l = l
-line-few (L.Fill f) k l =
-    by (is_some k.day.opening)
-    (λ o.
-    rw o
-    (by (ltb k.fills max_fills)
-    (λ t. let m = ltb-true k.fills max_fills t in rw t (omega (arith, m)))
-    (λ t. rw t l)))
-    (λ o. rw o l)
-line-few L.Other k l = l
 
 last-few : (held : List ℕ) (k : Kept) → k.fills ≤ 100000 → (last_ended held k).fills ≤ 100000
 last-few [] k l = l
-last-few (b ∷ bs) k l = line-few (said (b ∷ bs)) k l
+last-few (b ∷ bs) k l = few_fills (said (b ∷ bs)) k l
 
 text-few : (t : List ℕ) (held : List ℕ) (k : Kept) → k.fills ≤ 100000 → (text_taken k held t).fills ≤ 100000
 unfolding text_taken
@@ -40,7 +23,7 @@ text-few (b ∷ bs) held k l =
     (λ g.
     rw g
     (by (eqb b 10)
-    (λ e. rw e (text-few bs [] (line_ended held k) (line-few (said held) k l)))
+    (λ e. rw e (text-few bs [] (line_ended held k) (few_fills (said held) k l)))
     (λ e.
     rw e
     (by (ltb (length held) max_line)

@@ -2,7 +2,7 @@
 // what is kept of a text, taken whole; no contract can say that the file has that text.
 #![tactic(auto)]
 
-ghost use Rattle.std.specs.Prelude.{◌≡◌, true, ◌||◌, List, ℕ};
+ghost use Rattle.std.specs.Prelude.{◌≡◌, ◌≤◌, true, ◌||◌, List, ℕ};
 ghost use Rattle.day_keeping.specs.Inner.Keeping.{is_going, is_good, kept};
 ghost use Rattle.day_collecting.specs.Inner.Collecting.{Took, KeptOf};
 
@@ -30,7 +30,8 @@ fn take_some<R: Eprint + Alloc>(
     fills: &mut Fills,
 ) -> Collected
     requires { is_going day.reading ≡ true }
-    ensures { (is_going result.reading || is_good result.reading) ≡ true → Took 65536 (kept day fills.old) line.old (kept result fills.new) line.new }
+    ensures few { fills.old.count ≤ 100000 → fills.new.count ≤ 100000 }
+    ensures taken { (is_going result.reading || is_good result.reading) ≡ true → Took 65536 (kept day fills.old) line.old (kept result fills.new) line.new }
 {
     match input.read(chunk) {
         Ok(0) => take_last(rt, day, line, fills),
@@ -42,14 +43,15 @@ fn take_some<R: Eprint + Alloc>(
     }
 }
 
-// Reads until nothing more is to be read, and keeps the fills of this text alone.
+// Reads until nothing more is to be read, and keeps the fills of this text alone; also where the reading fails, no more than there is room for.
 pub fn collect<R: Eprint + Alloc>(
     rt: &R,
     input: &mut impl Read,
     name: &[u8],
     fills: &mut Fills,
 ) -> Collected
-    ensures { is_good result.reading ≡ true → (text : List ℕ) × KeptOf text (kept result fills.new) }
+    ensures few { fills.new.count ≤ 100000 }
+    ensures said { is_good result.reading ≡ true → (text : List ℕ) × KeptOf text (kept result fills.new) }
 {
     let mut chunk = [0u8; 65536];
     let mut line = Line::new();

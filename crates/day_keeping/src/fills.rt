@@ -3,10 +3,8 @@ ghost use Rattle.std.specs.Prelude.{◌≡◌, ◌+◌, ◌*◌, ◌≤◌, cond
 ghost use Rattle.std.proofs.lemmas.List.Edits.{sets};
 ghost use Rattle.day.specs.Numbers.{fill_numbers};
 
+use crate::FILLS;
 use holding::Fill;
-
-// The most fills of a day.
-const FILLS: usize = 100_000;
 
 #[derive(Drop)]
 pub struct Fills {

@@ -14,6 +14,9 @@ use fills::Fills;
 use holding::Fill;
 use std::str;
 
+// The most fills of a day.
+pub const FILLS: usize = 100_000;
+
 // An opening cash, and the number of its line.
 #[derive(Clone, Copy)]
 pub struct Opening {

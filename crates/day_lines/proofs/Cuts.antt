@@ -1,5 +1,7 @@
 -- Laws of words: what is cut off before a remark, the parts of a text as `split` and `filter` give them, and words that are none of a line.
-use Rattle.std.proofs.Common.{◌≡◌, ◌≤◌, ℕ, suc, ◌+◌, ◌==◌, List, [], ◌∷◌, false, not, refl, ap, ◌∙◌, length, take, arith, Option, Some, None, Bor, get_or, slice_get, ne_eqb, ltb, ltb-false}
+use Rattle.std.proofs.Common.{◌≡◌, ◌≤◌, ℕ, suc, ◌+◌, ◌==◌, List, [], ◌∷◌, Bool, true, false, not, refl, sym, ap, ◌∙◌, length, take, arith, Option, Some, None, Bor, get_or, slice_get, ne_eqb, ltb, ltb-false}
+use lib.Dec.{eqb}
+use borrow.Author.Tests.{eq-eqb, eqb-true}
 use Rattle.std.specs.Option.{unwrap_or, option_map}
 use Rattle.std.proofs.lemmas.Option.{unwrap_or-slice_get}
 use Rattle.std.proofs.lemmas.List.Sums.{prefix_len-le-length}
@@ -51,6 +53,29 @@ given r d ws i e n = go r ∙ ap (λ (o : Option (List ℕ)). unwrap_or o []) e 
     go : (o : Option (Bor (List ℕ))) → (unwrap_or o d).now ≡ unwrap_or (option_map (λ x. x.now) o) []
     go None = n
     go (Some x) = refl
+
+-- ── the same bytes ──
+
+alike_same : (x y : List ℕ) → alike x y ≡ true → x ≡ y
+alike_same [] [] e = refl
+alike_same [] (y ∷ ys) e = cc
+alike_same (x ∷ xs) [] e = cc
+alike_same (x ∷ xs) (y ∷ ys) e =
+    by (eqb x y)
+    (λ t. let f : alike xs ys ≡ true = rw t at e in rw (eqb-true x y t, alike_same xs ys f))
+    (λ t. let f : false ≡ true = rw t at e in cc)
+
+same_alike : (x : List ℕ) → alike x x ≡ true
+same_alike [] = refl
+same_alike (x ∷ xs) = rw (eq-eqb x x refl) (same_alike xs)
+
+-- a test of the same bytes is this one
+pub alike_is : (r : Bool) (x y : List ℕ) → (r ≡ true → x ≡ y) × (x ≡ y → r ≡ true) → r ≡ alike x y
+alike_is true x y h = rw (h.0 refl) (sym (same_alike y))
+alike_is false x y h =
+    by (alike x y)
+    (λ t. let f : false ≡ true = h.1 (alike_same x y t) in cc)
+    (λ t. sym t)
 
 -- words of different lengths differ
 alike_length : (x y : List ℕ) → (length x ≡ length y → ⊥) → alike x y ≡ false

@@ -4,6 +4,7 @@ ghost use Rattle.std.specs.Prelude.{◌≡◌, true, ◌&&◌, map, ◌≤◌, �
 ghost use Rattle.std.specs.Int.Bits.{bit_xor};
 ghost use Rattle.types.specs.Limits.{within, max_price, max_quantity};
 ghost use Rattle.levels.specs.Order.{ahead_of, in_order, steps};
+ghost use Rattle.levels.specs.Table.{rows};
 ghost use Rattle.levels.specs.Lent.{levels_in};
 ghost use Rattle.levels.specs.Formed.{every, zeros, well_formed};
 
@@ -147,13 +148,23 @@ fn unused_are_zero<'a>(prices: &'a [u32; 128], quantities: &'a [u32; 128], n: us
     bits == 0
 }
 
-// Whether a side that is lent is well formed.
+// Whether two rows and a count are a well-formed side. They are handed over one by one: a record of them goes through memory, which took longer.
+#[inline(never)]
 #[tactic(auto, using(crate::proofs::Tables::formed_rows, crate::proofs::Tables::too_many))]
+fn rows_formed<'a>(side: Side, prices: &'a [u32; 128], quantities: &'a [u32; 128], n: usize) -> bool
+    requires { (length prices.now ≡ 128) × (length quantities.now ≡ 128) }
+    ensures { result ≡ well_formed side (rows prices.now quantities.now n) }
+{
+    n <= 128
+        && prices_fit(side, prices, n)
+        && unused_are_zero(prices, quantities, n)
+        && quantities_fit(quantities)
+}
+
+// Whether a side that is lent is well formed.
+#[inline(always)]
 pub fn well_formed(side: Side, lent: SideRows<'_>) -> bool
     ensures { result ≡ well_formed side (levels_in lent.entry) }
 {
-    lent.count <= 128
-        && prices_fit(side, lent.prices, lent.count)
-        && unused_are_zero(lent.prices, lent.quantities, lent.count)
-        && quantities_fit(lent.quantities)
+    rows_formed(side, lent.prices, lent.quantities, lent.count)
 }

@@ -96,6 +96,7 @@ impl<'a> Ordered<'a> {
     }
 
     // Where `price` stands among them, or before which it belongs.
+    #[inline(always)]
     #[tactic(auto, using(crate::proofs::Orders::place_at, crate::proofs::Orders::place_before))]
     pub fn find(self, price: u32) -> Place
         ensures { result ≡ place_from self.entry.side price 0 (prices_in self.entry) }
@@ -110,6 +111,7 @@ impl<'a> Ordered<'a> {
 
 impl<'a> SideRows<'a> {
     // Where `price` stands among its prices, which are in the side's order, or before which it belongs.
+    #[inline(always)]
     pub fn find(self, side: Side, price: u32) -> Place
         requires { (self.count ≤ 128) × (in_order side (take self.count self.prices.now) ≡ true) }
         ensures { result ≡ place_from side price 0 (take self.entry.count self.entry.prices.now) }

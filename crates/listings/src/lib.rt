@@ -29,6 +29,7 @@ pub enum Listing {
 }
 
 // The places that a listing of a book that is lent fills in a buffer of `room` places, or the refusal.
+#[inline(always)]
 pub fn places_at(book: BookRows<'_>, listing: Listing, room: usize) -> Result<u64, Refusal>
     ensures { reply_of result ≡ map_reply length (fitted room (numbers_of listing (book_in book.entry))) }
 {

@@ -121,6 +121,7 @@ fn range_runs(side: Side, lent: SideRows<'_>, lo: Price, hi: Price) -> Plan
 }
 
 // What a listing takes of a book that is lent.
+#[inline(always)]
 pub(crate) fn plan_of(book: BookRows<'_>, listing: Listing) -> Plan
     ensures { Plans (numbers_of listing (book_in book.entry)) (book_in book.entry) result }
 {

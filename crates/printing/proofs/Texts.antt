@@ -15,6 +15,8 @@ use Rattle.levels.proofs.Tables.{levels-length, levels_cons}
 use Rattle.orderbook.specs.declared.OrderBook.{OrderBook}
 use Rattle.orderbook.specs.declared.lent.BookRows.{BookRows}
 use Rattle.orderbook.specs.Lent.{book_in}
+use Rattle.orderbook.specs.Inner.Long.{Long}
+use Rattle.orderbook.proofs.Books.{long_rows}
 use Rattle.decimals.specs.Decimals.{decimal, pair, Puts}
 use Rattle.decimals.proofs.Digits.{decimal-short, two_digits, pair-length}
 use Rattle.decimals.proofs.Puts.{then, room, front_room, rest_room, Owed, owed-put, owed_end, owed_room}
@@ -97,9 +99,8 @@ levels_few t h =
     omega (arith, paired-short (take t.count t.prices) (take t.count t.quantities), length-take t.count t.prices)
 
 -- the end state has at most 12,000 bytes
-pub end_short : (r : BookRows) → length (head_text r.sequence) + length (sides_text (book_in r)) ≤ 12000
-end_short r =
-    let b = book_in r in
+pub end_short : (b : OrderBook) → Long b → length (head_text b.sequence) + length (sides_text b) ≤ 12000
+end_short b w =
     omega (
       arith,
       head_length b.sequence,
@@ -107,11 +108,11 @@ end_short r =
       sides_length b,
       side_length bid (levels b.bids) refl,
       side_length ask (levels b.asks) refl,
-      levels_few b.bids r.bids.long_prices,
-      levels_few b.asks r.asks.long_prices,
+      levels_few b.bids w.bid-prices,
+      levels_few b.asks w.ask-prices,
     )
 
 -- the room for the sides behind the head
 pub sides_room :
     {o p : List ℕ} {at m : ℕ} (r : BookRows) → Puts (head_text r.sequence) at o p m → at + 12000 ≤ length o → m + length (sides_text (book_in r)) ≤ length p
-sides_room {o} {p} {at} {m} r a h = room (head_text r.sequence) o p at m (length (sides_text (book_in r))) a (omega (arith, h, end_short r))
+sides_room {o} {p} {at} {m} r a h = room (head_text r.sequence) o p at m (length (sides_text (book_in r))) a (omega (arith, h, end_short (book_in r) (long_rows r)))

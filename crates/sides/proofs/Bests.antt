@@ -67,6 +67,21 @@ pub level-none : (best : Option PriceLevel) → best ≡ None → best_level bes
 unfolding best_level
 level-none best e = rw e
 
+-- with no level on a side there is no answer of both
+pub no_bid : {A : Type 0} (f : PriceLevel → PriceLevel → Reply A) (bid ask : Option PriceLevel) → bid ≡ None → of_both f bid ask ≡ refused 10 []
+unfolding of_both
+no_bid f bid ask e = rw e
+
+pub no_ask : {A : Type 0} (f : PriceLevel → PriceLevel → Reply A) (bid ask : Option PriceLevel) → ask ≡ None → of_both f bid ask ≡ refused 10 []
+unfolding of_both
+no_ask f (Some b) ask e = rw e
+no_ask f None ask e = refl
+
+-- with both it is what is made of the two
+pub both : {A : Type 0} (f : PriceLevel → PriceLevel → Reply A) (bid ask : Option PriceLevel) (b a : PriceLevel) → bid ≡ Some b → ask ≡ Some a → of_both f bid ask ≡ f b a
+unfolding of_both
+both f bid ask b a e g = rw (e, g)
+
 -- the quote of a reply
 abbrev quote_in : Quote → Reply Quote → Quote
 quote_in q (done r) = r

@@ -10,13 +10,13 @@ pub loop-fill-preserved : goal.loop-fill-preserved
 loop-fill-preserved c =
     let taken = ap reply_of c.in-Ok.is in
     let left = begins c.args.fills.now c.loop-fill.fill-index _ (omega arith) _ _ _ c.loop-fill.invariant.2 in
-    (omega arith, leaves_ledger _ _ _ c.apply-outcome.ensures taken, goes_on _ _ _ _ _ left _ c.apply-outcome.ensures taken)
+    (omega arith, leaves_ledger _ _ _ c.apply_fill-booked.ensures taken, goes_on _ _ _ _ _ left _ c.apply_fill-booked.ensures taken)
 
 pub returns-in_default : goal.returns-in_default
 returns-in_default c =
     let why = c.in_default.field-0 in
     let left = begins c.args.fills.now c.loop-fill.fill-index _ (omega arith) _ _ _ c.loop-fill.invariant.2 in
-    stops _ _ _ _ _ left _ c.apply-outcome.ensures (number_of why) (values_of why) (ap reply_of c.in_default.is)
+    stops _ _ _ _ _ left _ c.apply_fill-booked.ensures (number_of why) (values_of why) (ap reply_of c.in_default.is)
 
 pub returns : goal.returns
 returns c =

@@ -9,4 +9,4 @@ loop-turn-preserved g c =
     let l = c.loop-turn in
     let more : is_going l.day.reading ≡ true = search (rules, tests) in
     let most : (l._turn + 1) * 65536 ≡ l._turn * 65536 + 65536 = omega arith in
-    λ e. rw most (took_then _ _ _ _ _ _ _ _ (l.invariant (rw more)) more (c.take_some-day.ensures e))
+    (c.take_some-day.ensures.few l.invariant.0, λ e. rw most (took_then _ _ _ _ _ _ _ _ (l.invariant.1 (rw more)) more (c.take_some-day.ensures.taken e)))

@@ -7,9 +7,9 @@ use lib.ListN.{length, take, length-take}
 use Rattle.day_collecting.proofs.Texts.{took_bytes}
 use Rattle.day_collecting.proofs.take_some.Goals as goal
 
-pub returns-in-Ok : goal.returns-in-Ok
-returns-in-Ok g c =
+pub returns-in-Ok-clause-taken : goal.returns-in-Ok-clause-taken
+returns-in-Ok-clause-taken g c =
     let chunk = c.read.new.buf in
     let whole : length chunk ≡ 65536 = search rules in
     let few : length (take c.in-Ok.n chunk) ≤ 65536 = rw length-take (omega arith) in
-    λ g. took_bytes 65536 _ _ _ _ (take c.in-Ok.n chunk) few c.take_bytes.ensures
+    λ g. took_bytes 65536 _ _ _ _ (take c.in-Ok.n chunk) few c.take_bytes.ensures.goes

@@ -1,9 +1,7 @@
 -- `listings::write_at` meets its contract: the plan, held to the room, is written, and the asks follow the bids in the part that is lent on.
 use Prim.Native.Nat.{ℕ, ◌≤◌}
-use native.Mathlib.Omega.{arith}
 use mathlib.Core.Path.{◌≡◌}
 use mathlib.Core.List.{List}
-use borrow.Author.Rules.{rules}
 use Rattle.types.specs.Replies.{Reply}
 use Rattle.types.specs.Written.{fitted}
 use Rattle.orderbook.specs.declared.OrderBook.{OrderBook}

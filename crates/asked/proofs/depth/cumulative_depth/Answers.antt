@@ -1,7 +1,7 @@
 -- `asked::depth::cumulative_depth` meets its contract: the total of the places that the price reaches, for a price within the limits.
 use Prim.Native.Nat.{◌≤◌}
 use native.Mathlib.Nat.{le_trans}
-use Rattle.types.proofs.Booleans.{passed, failed}
+use Rattle.types.proofs.Booleans.{passed}
 use Rattle.levels.specs.Inner.Found.{reached_in}
 use Rattle.levels.proofs.Found.{reached_few}
 use Rattle.asked.proofs.Finds.{lent, reached_total}

@@ -1,7 +1,7 @@
 -- `asked::depth::depth_at` meets its contract: the quantity stands at the place where the search finds the price.
 use mathlib.Core.Path.{sym, ◌∙◌}
 use native.Mathlib.Omega.{arith}
-use Rattle.types.proofs.Booleans.{passed, failed}
+use Rattle.types.proofs.Booleans.{passed}
 use Rattle.asked.proofs.Finds.{lent, found_in, found_depth, absent_depth}
 use Rattle.asked.proofs.depth.depth_at.Goals as goal
 

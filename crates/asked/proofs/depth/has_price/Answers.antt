@@ -1,6 +1,6 @@
 -- `asked::depth::has_price` meets its contract: the search finds the price exactly where a level has it.
 use mathlib.Core.Path.{sym, ◌∙◌}
-use Rattle.types.proofs.Booleans.{passed, failed}
+use Rattle.types.proofs.Booleans.{passed}
 use Rattle.asked.proofs.Finds.{lent, found_has, absent_has}
 use Rattle.asked.proofs.depth.has_price.Goals as goal
 

@@ -1,7 +1,6 @@
 -- `asked::depth::tick_size` meets its contract: the smallest gap of one side is where the other side's walk begins.
 use Prim.Native.Nat.{◌+◌, ◌-◌, ◌<◌}
 use mathlib.Core.Path.{sym}
-use mathlib.Core.Logic.{⊎_elim}
 use native.Mathlib.Omega.{arith}
 use Rattle.asked.proofs.Ticks.{fit, tick_none, tick_some}
 use Rattle.asked.proofs.depth.tick_size.Goals as goal

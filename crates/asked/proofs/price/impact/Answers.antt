@@ -1,8 +1,7 @@
 -- `asked::price::impact` meets its contract: 10 for target 0, and the one price for any other target within the limits.
 use mathlib.Core.Path.{◌≡◌}
 use mathlib.Core.Bool.{true}
-use native.Mathlib.Omega.{arith}
-use borrow.Author.Tests.{ne_eqb, leb-true}
+use borrow.Author.Tests.{ne_eqb}
 use Rattle.types.specs.Limits.{is_quantity}
 use Rattle.types.proofs.Booleans.{passed, failed}
 use Rattle.sides.specs.Questions.{impact_of}

@@ -1,5 +1,5 @@
 -- `asked::price::price_or` meets its contract: the walk's cost over the target, small since every price is within its limit, or the refusal.
-use mathlib.Core.Path.{◌≡◌, sym, ◌∙◌, ap}
+use mathlib.Core.Path.{◌≡◌, ◌∙◌, ap}
 use mathlib.Core.Bool.{true}
 use native.Mathlib.Omega.{arith}
 use lib.Dec.{leb}

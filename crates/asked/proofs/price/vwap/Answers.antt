@@ -2,7 +2,7 @@
 use mathlib.Core.Path.{◌≡◌}
 use mathlib.Core.Bool.{true}
 use native.Mathlib.Omega.{arith}
-use borrow.Author.Tests.{ne_eqb, leb-true}
+use borrow.Author.Tests.{ne_eqb}
 use Rattle.types.specs.Limits.{is_quantity}
 use Rattle.types.proofs.Booleans.{passed, failed}
 use Rattle.quotient.proofs.Overs.{over_some}

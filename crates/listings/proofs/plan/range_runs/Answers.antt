@@ -5,7 +5,7 @@ use mathlib.Core.Path.{◌≡◌}
 use mathlib.Core.Bool.{true, false}
 use lib.Dec.{ltb}
 use borrow.Author.Tests.{le-ltb}
-use Rattle.types.proofs.Booleans.{passed, failed}
+use Rattle.types.proofs.Booleans.{passed}
 use Rattle.listings.specs.Listed.{is_range}
 use Rattle.listings.proofs.Ranges.{range_order, bids_found, asks_found, run-few}
 use Rattle.listings.proofs.plan.range_runs.Goals as goal

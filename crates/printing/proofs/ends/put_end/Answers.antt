@@ -5,11 +5,13 @@ use Rattle.decimals.specs.Decimals.{Puts}
 use Rattle.decimals.proofs.Puts.{then}
 use Rattle.receiver.specs.declared.State.TheVariants.{Live}
 use Rattle.printing.specs.Printed.{state_text}
+use Rattle.orderbook.specs.Lent.{book_in}
+use Rattle.orderbook.proofs.Books.{long_rows}
 use Rattle.printing.proofs.Texts.{end_short}
 use Rattle.printing.proofs.ends.put_end.Goals as goal
 
 pub put_head-next-requires : goal.put_head-next-requires
-put_head-next-requires c = omega (arith, end_short c.rows-book.result)
+put_head-next-requires c = omega (arith, end_short (book_in c.rows-book.result) (long_rows c.rows-book.result))
 
 pub returns : goal.returns
 returns c =
