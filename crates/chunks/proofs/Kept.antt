@@ -1,4 +1,4 @@
--- Laws of the two loops: the whole lines from the end of a text, and bytes moved to the front.
+-- Laws of the loop over the whole lines from the end of a text, and of bytes moved to the front.
 use Prim.Native.Nat.{ℕ, suc, ◌+◌, ◌-◌, ◌≤◌, ◌<◌}
 use mathlib.Core.Bool.{true, false}
 use mathlib.Core.Path.{◌≡◌, sym, ap, ◌∙◌}
